@@ -19,7 +19,7 @@ from pathlib import Path
 
 TOP = Path(__file__).resolve().parent.parent
 ROOT_CALL = "run_program"  # the call whose clauses a reader must believe
-CUT = "IsCutText"  # what is asked of `cut` alone
+CUTS = {"IsCutText", "IsRefinedText"}  # what is asked of `cut` and `refine` alone
 PROGRAM = "firsim"
 PAGES = ["README.md", *sorted(str(page.relative_to(TOP)) for page in (TOP / "docs").glob("*.md"))]
 
@@ -192,9 +192,9 @@ def names_in(lines):
     return set(re.findall(NAME, " ".join(re.sub(r"--.*|\"[^\"]*\"", "", line) for line in lines)))
 
 
-def believed(without=""):
-    """What the clauses of the top call lead to: the definitions of each specs file, the types of the code, and the words of the toolchain. A name
-    may be left out, with all that it alone leads to."""
+def believed(without=()):
+    """What the clauses of the top call lead to: the definitions of each specs file, the types of the code, and the words of the toolchain. Names
+    may be left out, with all that they alone lead to."""
     specs, reached, types, words, todo, own = {}, {}, set(), set(), [], crates()
 
     def ask(crate, module, name):
@@ -202,7 +202,7 @@ def believed(without=""):
             words.add(f"{crate}.{module}.{name}")
         elif "declared" in module:
             types.add((crate, module.split(".")[-2] if module.endswith(("TheVariants", "TheOpen", "TheViews")) else module.split(".")[-1]))
-        elif name and name != without:
+        elif name and name not in without:
             todo.append((crate, module, name))
 
     call = next(path for path in sorted(TOP.glob("crates/*/src/*.rt")) if f"pub fn {ROOT_CALL}" in path.read_text())
@@ -236,7 +236,7 @@ def believed(without=""):
 
 def table_of_beliefs():
     specs, reached, types, words = believed()
-    others = believed(CUT)[1]
+    others = believed(CUTS)[1]
     place = {name: number for number, name in enumerate(name for family in families() for name in family["crates"].split())}
     rows, total, count, for_cut = [], 0, 0, 0
     for path in sorted(reached, key=lambda path: (-place[path.parts[-3]], path.name)):
@@ -244,11 +244,11 @@ def table_of_beliefs():
         lines = lines_of(items)
         total, count = total + lines, count + len(items)
         for_cut += lines - lines_of(others.get(path, {}).values())
-        who = "" if path in others else "cut"
+        who = "" if path in others else "cut, refine"
         link = f"[{path.stem}](../{path.relative_to(TOP)})"
         rows.append(f"| {path.parts[-3]} | {link} | {specs[path].says} | {len(items)} | {lines} | {specs[path].total} | {who} |")
     head = [
-        f"{count:,} definitions in {len(rows)} files, {total:,} lines with their comments, {for_cut} of them for `cut` alone. They speak of"
+        f"{count:,} definitions in {len(rows)} files, {total:,} lines with their comments, {for_cut} of them for `cut` and `refine` alone. They speak of"
         f" {len(types)} types of the",
         f"code as plain data, and of {len(words)} words of the toolchain's own libraries.",
         "",

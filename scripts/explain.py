@@ -42,7 +42,7 @@ def aligned(rows):
 
 def texts_of(words):
     """The names of the circuit and of the stimulus that a command line reads, as far as it has them."""
-    names, words = [], iter(words[1:])
+    asked, names, words = (words + [""])[0], [], iter(words[1:])
     for word in words:
         if word == "--":
             names += words
@@ -50,7 +50,7 @@ def texts_of(words):
             next(words, None)
         elif not word.startswith("--"):
             names.append(word)
-    return (names + ["-", None])[0], (names + [None, None])[1]
+    return (names + ["-"])[0], names[1] if asked == "run" and len(names) > 1 else None
 
 
 def shown(char):

@@ -395,7 +395,7 @@ def explanations(checkout, program):
         for words in (["simulate"], [], ["run", "a", "b", "c"], ["make", "0"]):
             done = checkout.explained(*words)
             same((done.stdout, done.returncode), (b"usage\n", 1))
-            has(done.stderr, b"  check [CIRCUIT]                     `ok`, or the circuit's first fault\n")
+            has(done.stderr, b"  " + b"check [CIRCUIT]".ljust(len("run [--workers P] [--refine] CIRCUIT STIMULUS")) + b"  `ok`, or the circuit's first fault\n")
         for word in ("--help", "-h", "help", "--version"):
             done = checkout.firsim(word)
             same((done.stdout, done.returncode), (b"usage\n", 1))

@@ -14,7 +14,9 @@ import tempfile
 import xml.etree.ElementTree as Tree
 from pathlib import Path
 
+import dump_cases
 import minute
+import refine_cases
 import wave_cases
 
 # The witness runs each circuit for so many cycles, but not those with so many leaves that it would take too long; and of the cases those
@@ -120,7 +122,35 @@ def limits():
         modules = "".join(f"  module C{k} :\n    " + (f"inst i of C{k + 1}\n" if k < count else "skip\n") for k in range(1, count + 1))
         return front + "    inst i of C1\n" + modules
 
-    for meaning, text in (("leaves", leaves), ("port leaves", ports), ("bytes of names", names), ("flat size", size), ("state words", words), ("names in a path", path)):
+    def arms(more):
+        start = "    input v : UInt<1>[4000]\n    input a : UInt<1>\n    input b : UInt<1>\n    wire w : UInt<1>[4000]\n    invalidate w\n"
+        return front + start + "    when a :\n      skip\n    else when b :\n" + "      connect w, v\n" * 49 + "    skip\n" * (3_993 + more)
+
+    def index(more):
+        start = "    input w : UInt<1>[4000]\n    input v : UInt<1>[2]\n    output o : UInt<1>\n"
+        return front + start + "    connect o, v[w[0]]\n" * 41 + "    skip\n" * (11_997 + more)
+
+    def instance(more):
+        start = "    input v : UInt<1>[4000]\n    inst i of N\n"
+        return front + start + "    connect i.p, v\n" * 61 + "    skip\n" * (12_000 + more) + "  module N :\n    input p : UInt<1>[4000]\n"
+
+    def register(more):
+        start = "    input clock : Clock\n    input v : UInt<1>[4000]\n    reg r : UInt<1>[4000], clock\n"
+        return front + start + "    connect r, v\n" * 82 + "    skip\n" * (3_999 + more)
+
+    circuits = (
+        ("leaves", leaves),
+        ("port leaves", ports),
+        ("bytes of names", names),
+        ("flat size", size),
+        ("flat size, in an `else when`", arms),
+        ("flat size, with the leaves of an index", index),
+        ("flat size, with an instance", instance),
+        ("flat size, with a register", register),
+        ("state words", words),
+        ("names in a path", path),
+    )
+    for meaning, text in circuits:
         yield f"a circuit at the limit of {meaning}", {"words": ["check"], "stdin": text(0), "status": 0, "stdout": "ok\n"}
         yield f"a circuit past the limit of {meaning}", {"words": ["check"], "stdin": text(1), "status": 2, "stdout": "circuit TooLarge 2:9\n"}
 
@@ -181,6 +211,9 @@ def told_faults(page):
             words, status, text = ["run"], 3, front + module + "%stimulus\n" + text
         elif "The whole text:" not in told:
             text = front + "".join(f"    {each}\n" for each in text.splitlines())
+        asked = re.search(r"^By `(vcd.*?)`", told, re.M)
+        if asked:
+            words, text = asked[1].split(), text + "%stimulus\ncycles 0\n"
         yield f"docs/FAULTS.md: {kind}", {"words": words, "stdin": text, "status": status, "stdout": line + "\n"}
 
 
@@ -245,8 +278,11 @@ def main():
         faults.append((name, fault_of(program, case)))
     for name, case in lengths():
         faults.append((name, fault_of(program, case)))
+    for name, case in refine_cases.cases():
+        faults.append((name, fault_of(program, case)))
     faults += minute.faults(program)
     faults += wave_cases.faults(program)
+    faults += dump_cases.faults(program)
     failed = [(name, fault) for name, fault in faults if fault]
     for name, fault in failed:
         print(f"FAILED {name}: {fault}")

@@ -32,7 +32,8 @@ use Rattle.circuit_run.proofs.NetRuns.{run_on}
 line_is : (cycle : ℕ) (row : List Value) → trace_line_of cycle row ≡ line_of (cycle, map integer_of row)
 line_is cycle row = ap (λ l. decimal cycle ++ l ++ codes "\n") (sym (flat_map-map (λ n. codes " " ++ decimal_text n) integer_of row))
 
-lines_are : (first : ℕ) (rows : List (List Value)) → lines_from first rows ≡ flat_map line_of (enumerate_from first (map (map integer_of) rows))
+-- The lines of rows are those of their integers.
+pub lines_are : (first : ℕ) (rows : List (List Value)) → lines_from first rows ≡ flat_map line_of (enumerate_from first (map (map integer_of) rows))
 lines_are first [] = refl
 lines_are first (row ∷ rows) = ap₂ (λ a b. a ++ b) (line_is first row) (lines_are (first + 1) rows)
 
@@ -45,7 +46,7 @@ first_within net = record {
 }
 
 module _ (texts : Texts) (design : Design) (net : Net) (serves : Serves texts design net) where
-  firsts_match : Matches serves tree.first_state first_state
+  pub firsts_match : Matches serves tree.first_state first_state
   firsts_match = record {
     registers = λ x n y there held. refl;
     contents = λ m element k p memory typ leaf there of_type at. refl;

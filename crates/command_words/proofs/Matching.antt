@@ -36,3 +36,6 @@ text_or o d f id is = lent_or o d ∙ ap (λ t. unwrap_or t d.now) (is ∙ first
 
 pub ap₃ : {A B C D : Type 0} (f : A → B → C → D) (a x : A) (b y : B) (c z : C) → a ≡ x → b ≡ y → c ≡ z → f a b c ≡ f x y z
 ap₃ f a x b y c z p q r = ap (λ u. f u b c) p ∙ (ap (λ u. f x u c) q ∙ ap (f x y) r)
+
+pub ap₄ : {A B C D E : Type 0} (f : A → B → C → D → E) (a x : A) (b y : B) (c z : C) (d w : D) → a ≡ x → b ≡ y → c ≡ z → d ≡ w → f a b c d ≡ f x y z w
+ap₄ f a x b y c z d w p q r s = ap (λ u. f u b c d) p ∙ ap₃ (f x) b y c z d w q r s

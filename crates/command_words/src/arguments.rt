@@ -1,6 +1,6 @@
 //! The arguments that clap reads.
 
-ghost use Rattle.command_words.specs.Commands.{Follows, circuit_rule, cycles_rule, number_rule, size_rule, stimulus_rule, workers_rule};
+ghost use Rattle.command_words.specs.Commands.{Follows, circuit_rule, cycles_rule, given_circuit_rule, leaf_rule, number_rule, refine_rule, size_rule, stimulus_rule, workers_rule};
 
 use clap::builder::ValueParser;
 use clap::{Arg, ArgAction, value_parser};
@@ -36,6 +36,15 @@ fn number<'a>(alloc: Global, id: &'a str, parser: ValueParser<'a>) -> Arg<'a>
         .value_parser(parser)
 }
 
+/// `--refine`.
+pub fn refine<'a>(alloc: Global) -> Arg<'a>
+    ensures { Follows refine_rule result }
+{
+    Arg::new(alloc, "refine")
+        .action(ArgAction::SetTrue)
+        .long("refine")
+}
+
 /// `CIRCUIT`.
 pub fn circuit<'a>(alloc: Global) -> Arg<'a>
     ensures { Follows circuit_rule result }
@@ -43,9 +52,25 @@ pub fn circuit<'a>(alloc: Global) -> Arg<'a>
     Arg::new(alloc, "circuit")
 }
 
+/// `CIRCUIT`, which must be given.
+pub fn given_circuit<'a>(alloc: Global) -> Arg<'a>
+    ensures { Follows given_circuit_rule result }
+{
+    circuit(alloc).required(true)
+}
+
 /// `STIMULUS`.
 pub fn stimulus<'a>(alloc: Global) -> Arg<'a>
     ensures { Follows stimulus_rule result }
 {
     Arg::new(alloc, "stimulus")
+}
+
+/// `LEAF ...`.
+pub fn leaf<'a>(alloc: Global) -> Arg<'a>
+    ensures { Follows leaf_rule result }
+{
+    Arg::new(alloc, "leaf")
+        .action(ArgAction::Append)
+        .num_args(0..)
 }

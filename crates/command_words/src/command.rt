@@ -1,12 +1,14 @@
 //! The commands.
 
-/// What a command line asks for. Names of texts are lent by the words; `-` is the name of standard input.
-#[derive(Clone, Copy)]
+/// What a command line asks for. Names of texts and of leaves are lent by the words; `-` is the name of standard input.
+#[derive(Drop)]
 pub enum Command<'a> {
     /// Runs a circuit under a stimulus, which stands behind the circuit in its text where no name is given.
     Run {
         /// From 1 to 64.
         workers: u32,
+        /// Whether the refined cut is run.
+        refined: bool,
         circuit: &'a str,
         stimulus: Option<&'a str>,
     },
@@ -32,5 +34,19 @@ pub enum Command<'a> {
         cycles: u32,
         /// From 1 to 4,096.
         size: u32,
+    },
+    /// Dumps the changes of leaves while a circuit is run under the stimulus behind it in its text. Where no leaf is named, the leaves
+    /// are those that a run watches.
+    Vcd {
+        /// From 1 to 64.
+        workers: u32,
+        circuit: &'a str,
+        leaves: Vec<&'a str>,
+    },
+    /// Lists the partitions of a circuit's refined cut.
+    Refine {
+        /// From 1 to 64.
+        workers: u32,
+        circuit: &'a str,
     },
 }

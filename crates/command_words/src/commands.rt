@@ -4,7 +4,7 @@ ghost use Rattle.std.specs.Prelude.{◌≡◌, [], IfOk};
 ghost use Rattle.clap.specs.Words.{app_of};
 ghost use Rattle.command_words.specs.Commands.{app_named, command_with, name_of};
 
-use crate::arguments::{circuit, cycles, size, stimulus, workers};
+use crate::arguments::{circuit, cycles, given_circuit, leaf, refine, size, stimulus, workers};
 use clap::Command;
 use std::alloc::{AllocError, Global};
 
@@ -16,6 +16,8 @@ pub enum Name {
     Widths,
     Cut,
     Make,
+    Vcd,
+    Refine,
 }
 
 /// The command that a word names.
@@ -28,6 +30,8 @@ pub fn name_of(word: &str) -> Option<Name>
         "widths" => Some(Name::Widths),
         "cut" => Some(Name::Cut),
         "make" => Some(Name::Make),
+        "vcd" => Some(Name::Vcd),
+        "refine" => Some(Name::Refine),
         _ => None,
     }
 }
@@ -39,6 +43,7 @@ pub fn command<'a>(alloc: Global, name: Name) -> Result<Command<'a>, AllocError>
     match name {
         Name::Run => bare(alloc, "run")
             .arg(workers(alloc))?
+            .arg(refine(alloc))?
             .arg(circuit(alloc))?
             .arg(stimulus(alloc)),
         Name::Check => bare(alloc, "check").arg(circuit(alloc)),
@@ -48,6 +53,13 @@ pub fn command<'a>(alloc: Global, name: Name) -> Result<Command<'a>, AllocError>
             .arg(workers(alloc))?
             .arg(cycles(alloc))?
             .arg(size(alloc)),
+        Name::Vcd => bare(alloc, "vcd")
+            .arg(workers(alloc))?
+            .arg(given_circuit(alloc))?
+            .arg(leaf(alloc)),
+        Name::Refine => bare(alloc, "refine")
+            .arg(workers(alloc))?
+            .arg(circuit(alloc)),
     }
 }
 

@@ -1,15 +1,17 @@
 //! Worked examples of the definition. The functions do nothing.
 
-ghost use Rattle.std.specs.Prelude.{◌≡◌, ℕ, List, Some, None, [], ◌∷◌, codes};
-ghost use Rattle.command_words.specs.Commands.{command_of, Run, Check, Widths, Cut, Make};
+ghost use Rattle.std.specs.Prelude.{◌≡◌, ℕ, true, false, List, Some, None, [], ◌∷◌, codes};
+ghost use Rattle.command_words.specs.Commands.{command_of, Run, Check, Widths, Cut, Make, Vcd, Refine};
 
 /// What `run` asks for.
 pub fn runs_are_read()
-    ensures alone { command_of (codes "run" ∷ []) ≡ Some (Run 1 (codes "-") None) }
-    ensures two_texts { command_of (codes "run" ∷ codes "-" ∷ codes "s" ∷ []) ≡ Some (Run 1 (codes "-") (Some (codes "s"))) }
-    ensures workers { command_of (codes "run" ∷ codes "--workers" ∷ codes "2" ∷ codes "c" ∷ codes "s" ∷ []) ≡ Some (Run 2 (codes "c") (Some (codes "s"))) }
-    ensures attached { command_of (codes "run" ∷ codes "c" ∷ codes "--workers=+64" ∷ codes "s" ∷ []) ≡ Some (Run 64 (codes "c") (Some (codes "s"))) }
-    ensures behind { command_of (codes "run" ∷ codes "--" ∷ codes "-x" ∷ []) ≡ Some (Run 1 (codes "-x") None) }
+    ensures alone { command_of (codes "run" ∷ []) ≡ Some (Run 1 false (codes "-") None) }
+    ensures two_texts { command_of (codes "run" ∷ codes "-" ∷ codes "s" ∷ []) ≡ Some (Run 1 false (codes "-") (Some (codes "s"))) }
+    ensures workers { command_of (codes "run" ∷ codes "--workers" ∷ codes "2" ∷ codes "c" ∷ codes "s" ∷ []) ≡ Some (Run 2 false (codes "c") (Some (codes "s"))) }
+    ensures attached { command_of (codes "run" ∷ codes "c" ∷ codes "--workers=+64" ∷ codes "s" ∷ []) ≡ Some (Run 64 false (codes "c") (Some (codes "s"))) }
+    ensures behind { command_of (codes "run" ∷ codes "--" ∷ codes "-x" ∷ []) ≡ Some (Run 1 false (codes "-x") None) }
+    ensures refined { command_of (codes "run" ∷ codes "--refine" ∷ []) ≡ Some (Run 1 true (codes "-") None) }
+    ensures refined_behind { command_of (codes "run" ∷ codes "c" ∷ codes "--workers" ∷ codes "5" ∷ codes "s" ∷ codes "--refine" ∷ []) ≡ Some (Run 5 true (codes "c") (Some (codes "s"))) }
 {}
 
 /// What `make` asks for.
@@ -18,18 +20,29 @@ pub fn makes_are_read()
     ensures all { command_of (codes "make" ∷ codes "4096" ∷ codes "--cycles" ∷ codes "10" ∷ codes "--workers" ∷ codes "4" ∷ []) ≡ Some (Make 4 10 4096) }
 {}
 
+/// What `vcd` asks for. An option may stand between the names of leaves.
+pub fn dumps_are_read()
+    ensures alone { command_of (codes "vcd" ∷ codes "-" ∷ []) ≡ Some (Vcd 1 (codes "-") []) }
+    ensures leaves { command_of (codes "vcd" ∷ codes "-" ∷ codes "r" ∷ codes "reset" ∷ codes "r" ∷ []) ≡ Some (Vcd 1 (codes "-") (codes "r" ∷ codes "reset" ∷ codes "r" ∷ [])) }
+    ensures around { command_of (codes "vcd" ∷ codes "-" ∷ codes "r" ∷ codes "--workers" ∷ codes "2" ∷ codes "clock2" ∷ [])
+        ≡ Some (Vcd 2 (codes "-") (codes "r" ∷ codes "clock2" ∷ [])) }
+    ensures behind { command_of (codes "vcd" ∷ codes "-" ∷ codes "--" ∷ codes "-x" ∷ []) ≡ Some (Vcd 1 (codes "-") (codes "-x" ∷ [])) }
+{}
+
 /// What the other commands ask for.
 pub fn others_are_read()
     ensures check { command_of (codes "check" ∷ []) ≡ Some (Check (codes "-")) }
     ensures empty_name { command_of (codes "check" ∷ [] ∷ []) ≡ Some (Check []) }
     ensures widths { command_of (codes "widths" ∷ codes "w" ∷ []) ≡ Some (Widths (codes "w")) }
     ensures cut { command_of (codes "cut" ∷ codes "c" ∷ codes "--workers" ∷ codes "64" ∷ []) ≡ Some (Cut 64 (codes "c")) }
+    ensures refine { command_of (codes "refine" ∷ []) ≡ Some (Refine 1 (codes "-")) }
+    ensures refine_all { command_of (codes "refine" ∷ codes "--workers" ∷ codes "3" ∷ codes "c" ∷ []) ≡ Some (Refine 3 (codes "c")) }
 {}
 
 /// Behind `--` each word is a name.
 pub fn names_are_texts()
     ensures behind { (name : List ℕ) → command_of (codes "check" ∷ codes "--" ∷ name ∷ []) ≡ Some (Check name) }
-    ensures both { (circuit stimulus : List ℕ) → command_of (codes "run" ∷ codes "--" ∷ circuit ∷ stimulus ∷ []) ≡ Some (Run 1 circuit (Some stimulus)) }
+    ensures both { (circuit stimulus : List ℕ) → command_of (codes "run" ∷ codes "--" ∷ circuit ∷ stimulus ∷ []) ≡ Some (Run 1 false circuit (Some stimulus)) }
 {}
 
 /// Words that are refused.
@@ -51,4 +64,9 @@ pub fn other_words_are_refused()
     ensures too_many_made { command_of (codes "make" ∷ codes "4097" ∷ []) ≡ None }
     ensures no_cycles { command_of (codes "make" ∷ codes "--cycles" ∷ codes "0" ∷ codes "1" ∷ []) ≡ None }
     ensures no_size { command_of (codes "make" ∷ []) ≡ None }
+    ensures no_circuit { command_of (codes "vcd" ∷ []) ≡ None }
+    ensures no_dumper { command_of (codes "vcd" ∷ codes "--workers" ∷ codes "0" ∷ codes "-" ∷ []) ≡ None }
+    ensures flag_twice { command_of (codes "run" ∷ codes "--refine" ∷ codes "--refine" ∷ []) ≡ None }
+    ensures flag_value { command_of (codes "run" ∷ codes "--refine=true" ∷ []) ≡ None }
+    ensures flag_elsewhere { command_of (codes "refine" ∷ codes "--refine" ∷ []) ≡ None }
 {}

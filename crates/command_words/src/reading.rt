@@ -2,7 +2,7 @@
 
 ghost use Rattle.std.specs.Prelude.{◌≡◌, map, string_bytes, option_map, IfOk, IfSome};
 ghost use Rattle.clap.specs.Words.{found_of, rows_of};
-ghost use Rattle.command_words.specs.Commands.{AreOf, InRange, app_named, command_of, matched, request_by, request_of};
+ghost use Rattle.command_words.specs.Commands.{AreOf, InRange, app_named, command_of, leaves_in, matched, request_by, request_of};
 
 use crate::command::Command;
 use crate::commands::{Name, command, name_of};
@@ -25,7 +25,8 @@ pub fn read_words<'a>(alloc: Global, words: &'a [String]) -> Result<Option<Comma
     let Some(matches) = matched(alloc, name, words)? else {
         return Ok(None);
     };
-    Ok(Some(asked(name, &matches)))
+    let command = asked(alloc, name, &matches)?;
+    Ok(Some(command))
 }
 
 /// What clap matches, or `None` where it refuses the words behind the first.
@@ -45,26 +46,43 @@ fn matched<'a>(
 }
 
 /// What a command asks for, by its matches.
-fn asked<'a>(name: Name, matches: &ArgMatches<'a>) -> Command<'a>
+fn asked<'a>(alloc: Global, name: Name, matches: &ArgMatches<'a>) -> Result<Command<'a>, AllocError>
     requires { AreOf name matches.now }
-    ensures command { request_of result ≡ request_by name (rows_of (found_of matches.now)) }
-    ensures in_range { InRange (request_of result) }
+    ensures command { IfOk result (λ command. request_of command ≡ request_by name (rows_of (found_of matches.now))) }
+    ensures in_range { IfOk result (λ command. InRange (request_of command)) }
 {
     let workers = matches.get_one::<u32>("workers").unwrap_or(1);
     let circuit = matches.get_str("circuit").unwrap_or("-");
     match name {
-        Name::Run => Command::Run {
+        Name::Run => Ok(Command::Run {
             workers,
+            refined: matches.get_one::<bool>("refine").unwrap_or(false),
             circuit,
             stimulus: matches.get_str("stimulus"),
-        },
-        Name::Check => Command::Check { circuit },
-        Name::Widths => Command::Widths { circuit },
-        Name::Cut => Command::Cut { workers, circuit },
-        Name::Make => Command::Make {
+        }),
+        Name::Check => Ok(Command::Check { circuit }),
+        Name::Widths => Ok(Command::Widths { circuit }),
+        Name::Cut => Ok(Command::Cut { workers, circuit }),
+        Name::Make => Ok(Command::Make {
             workers,
             cycles: matches.get_one::<u32>("cycles").unwrap_or(64),
             size: matches.get_one::<u32>("size").unwrap_or(0),
-        },
+        }),
+        Name::Vcd => Ok(Command::Vcd {
+            workers,
+            circuit,
+            leaves: leaves(alloc, matches)?,
+        }),
+        Name::Refine => Ok(Command::Refine { workers, circuit }),
+    }
+}
+
+/// The names of leaves, in their order.
+fn leaves<'a>(alloc: Global, matches: &ArgMatches<'a>) -> Result<Vec<&'a str>, AllocError>
+    ensures { IfOk result (λ names. map (λ name. name.now) names.items ≡ leaves_in (rows_of (found_of matches.now))) }
+{
+    match matches.get_strs("leaf") {
+        Some(names) => Vec::from_slice(alloc, names),
+        None => Ok(Vec::new(alloc)),
     }
 }

@@ -60,7 +60,7 @@ pub fn cut(alloc: Global, ordered: &Ordered, watch: &[u32], workers: u32) -> Res
 }
 
 /// The partitions: each has its sinks by rising numbers, and the assignments that it holds in the order of the sequence.
-fn parts_of(
+pub fn parts_of(
     alloc: Global,
     owners: &[u32],
     masks: &[u64],

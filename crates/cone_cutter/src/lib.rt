@@ -14,6 +14,10 @@ mod sinks;
 mod sizing;
 mod walking;
 
-pub use cutting::cut;
+pub use cutting::{cut, parts_of};
+pub use loads::{count_shared, give, without_bit};
+pub use needing::needs_of;
 pub use placing::Placing;
+pub use reading::rows_of;
 pub use sinks::{SinkAt, sinks_of};
+pub use walking::{no_stamps, walk};

@@ -68,7 +68,7 @@ fn with_bit(mask: u64, part: u32) -> u64
 }
 
 /// The mask without the bit of a partition.
-fn without_bit(mask: u64, part: u32) -> u64
+pub fn without_bit(mask: u64, part: u32) -> u64
     requires { part < 64 }
     ensures same { has_bit result part ≡ false }
     ensures others { (p : ℕ) → p < 64 → p ≢ part → has_bit result p ≡ has_bit mask p }
@@ -78,7 +78,7 @@ fn without_bit(mask: u64, part: u32) -> u64
 }
 
 /// Counts the leaves that a cone shares with each partition.
-fn count_shared(masks: &[u64], cone: &[u32], shared: &mut [usize])
+pub fn count_shared(masks: &[u64], cone: &[u32], shared: &mut [usize])
     requires within { All (λ x. x < length masks.now) cone.now }
     requires few { length shared.old ≤ 64 }
     ensures { (p : ℕ) → p < length shared.new → slice_index shared.new p ≡ shared_by masks.now cone.now p }
@@ -124,7 +124,7 @@ fn cheapest(costs: &[usize], shared: &[usize], size: usize) -> usize
 }
 
 /// Sets the bit of a partition for each leaf of a cone.
-fn give(masks: &mut [u64], cone: &[u32], part: u32)
+pub fn give(masks: &mut [u64], cone: &[u32], part: u32)
     requires within { All (λ x. x < length masks.old) cone.now }
     requires few { part < 64 }
     ensures { Gets part cone.now masks.old masks.new }

@@ -10,5 +10,6 @@ pub mod Epochs
 pub mod Progressing
 pub mod Wending
 pub mod Traces
+pub mod WatchedTraces
 pub mod Lines
 pub mod Sums

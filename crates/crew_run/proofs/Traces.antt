@@ -26,11 +26,11 @@ use Rattle.crew_run.proofs.Progressing.{none_told, begun_text}
 use Rattle.crew_run.specs.TraceTexts.{name_of_leaf, names_at, telling_of_names, trace_telling}
 
 -- no row ends it
-told_all : (rows : List (List Value)) → told_of (λ row. false) rows ≡ rows
+pub told_all : (rows : List (List Value)) → told_of (λ row. false) rows ≡ rows
 told_all [] = refl
 told_all (row ∷ rows) = ap (λ l. row ∷ l) (told_all rows)
 
-lines_are : (names : List (List ℕ)) (first : ℕ) (before : Option (List Value)) (rows : List (List Value)) → rows_text (telling_of_names names) first before rows ≡ lines_from first rows
+pub lines_are : (names : List (List ℕ)) (first : ℕ) (before : Option (List Value)) (rows : List (List Value)) → rows_text (telling_of_names names) first before rows ≡ lines_from first rows
 lines_are names first before [] = refl
 lines_are names first before (row ∷ rows) = ap (λ l. trace_line_of first row ++ l) (lines_are names (first + 1) (Some row) rows)
 

@@ -1,11 +1,12 @@
 //! The whole run.
 
-ghost use Rattle.std.specs.Prelude.{◌≡◌, ◌≢◌, ℕ, ◌<◌, ◌≤◌, List as Listed, length, All, Err, IfOk, OnOk, OnErr, take};
+ghost use Rattle.std.specs.Prelude.{◌≡◌, ◌≢◌, ℕ, ◌<◌, ◌≤◌, List as Listed, length, map, All, Err, IfOk, OnOk, OnErr, take};
 ghost use Rattle.shelf_io.specs.Outside.{Appends, Rose};
 ghost use Rattle.fir_tree.specs.LeafNames.{Texts};
 ghost use Rattle.fir_meaning.specs.Components.{Design};
 ghost use Rattle.net_meaning.specs.Cycles.{first_state};
 ghost use Rattle.net_meaning.specs.Words.{SaysItsWords};
+ghost use Rattle.net_of_circuit.specs.FlatOrder.{Standing, flat_of};
 ghost use Rattle.net_laws.specs.Serves.{Serves};
 ghost use Rattle.cone_cutter.specs.Splits.{IsSplit};
 ghost use Rattle.circuit_run.specs.Traces.{IsTraceText};
@@ -14,6 +15,7 @@ ghost use Rattle.circuit_run.specs.declared.fault.RunFault.TheVariants.{WriteFau
 ghost use Rattle.crew_run.specs.Epochs.{AreTablesOf, AreTablesBy};
 ghost use Rattle.crew_run.specs.RunTexts.{IsRunText};
 ghost use Rattle.crew_run.specs.TraceTexts.{trace_telling};
+ghost use Rattle.crew_run.specs.WatchedTexts.{StandAt, IsWatchedText};
 
 use crate::crew::cut_of;
 use crate::feed::Stimulated;
@@ -39,7 +41,8 @@ const EPOCH: u64 = 1024;
 /// number of workers. Answers the closed tables of the epochs, in order.
 ///
 /// The net serves the circuit and says where the words of its memories stand, its assignments stand in an order, and the stimulus was
-/// read for its ports. Any leaves of the net may be watched, each by its number. The net is cut into as many parts as there are workers,
+/// read for its ports. Any leaves of the net may be watched, each by its number: the trace is that of the circuit's leaves that stand at
+/// these numbers of its flat order. The net is cut into as many parts as there are workers,
 /// and each worker runs the code of one. The gate is told the number of each cycle. Takes memory for the codes, the state, and the rows
 /// and lines of 1,024 cycles. A fault leaves a prefix of the trace in the sink.
 pub fn simulate<R: Threads + Wait + Sync, G: Gate + Sync, K: Sink>(
@@ -55,6 +58,10 @@ pub fn simulate<R: Threads + Wait + Sync, G: Gate + Sync, K: Sink>(
     requires some { 1 ≤ plan.now.workers }
     requires few { plan.now.workers ≤ 64 }
     ensures traced { plan.now.watch.now ≡ watch plan.now.ordered.now.net → (texts : Texts) (design : Design) → Serves texts design plan.now.ordered.now.net → (bytes : Listed ℕ) × IsTraceText texts design plan.now.stimulus.now bytes
+        × (OnOk result (Appends (K.written sink.old) (K.written sink.new) bytes))
+        × (OnErr result ((n : ℕ) × Appends (K.written sink.old) (K.written sink.new) (take n bytes))) }
+    ensures shown { (texts : Texts) (design : Design) (serves : Serves texts design plan.now.ordered.now.net) (leaves : Listed Standing) → StandAt serves.of.placed plan.now.watch.now leaves
+        → (bytes : Listed ℕ) × IsWatchedText texts design (map flat_of leaves) plan.now.stimulus.now bytes
         × (OnOk result (Appends (K.written sink.old) (K.written sink.new) bytes))
         × (OnErr result ((n : ℕ) × Appends (K.written sink.old) (K.written sink.new) (take n bytes))) }
     ensures lines { (bytes : Listed ℕ) × IsRunText plan.now.ordered.now.net plan.now.watch.now first_state (given_from plan.now.stimulus.now 0 plan.now.stimulus.now.cycles) (trace_telling plan.now.ordered.now.net plan.now.watch.now) 0 bytes
@@ -82,6 +89,10 @@ pub fn simulate_within<R: Threads + Wait + Sync, G: Gate + Sync, K: Sink>(
     requires some { 1 ≤ plan.now.workers }
     requires few { plan.now.workers ≤ 64 }
     ensures traced { plan.now.watch.now ≡ watch plan.now.ordered.now.net → (texts : Texts) (design : Design) → Serves texts design plan.now.ordered.now.net → (bytes : Listed ℕ) × IsTraceText texts design plan.now.stimulus.now bytes
+        × (OnOk result (Appends (K.written sink.old) (K.written sink.new) bytes))
+        × (OnErr result ((n : ℕ) × Appends (K.written sink.old) (K.written sink.new) (take n bytes))) }
+    ensures shown { (texts : Texts) (design : Design) (serves : Serves texts design plan.now.ordered.now.net) (leaves : Listed Standing) → StandAt serves.of.placed plan.now.watch.now leaves
+        → (bytes : Listed ℕ) × IsWatchedText texts design (map flat_of leaves) plan.now.stimulus.now bytes
         × (OnOk result (Appends (K.written sink.old) (K.written sink.new) bytes))
         × (OnErr result ((n : ℕ) × Appends (K.written sink.old) (K.written sink.new) (take n bytes))) }
     ensures lines { (bytes : Listed ℕ) × IsRunText plan.now.ordered.now.net plan.now.watch.now first_state (given_from plan.now.stimulus.now 0 plan.now.stimulus.now.cycles) (trace_telling plan.now.ordered.now.net plan.now.watch.now) 0 bytes
@@ -117,6 +128,10 @@ pub fn simulate_cut<R: Threads + Wait + Sync, G: Gate + Sync, K: Sink>(
     requires some { 1 ≤ length plan.now.cut.now.parts }
     requires few { length plan.now.cut.now.parts ≤ 64 }
     ensures traced { plan.now.watch.now ≡ watch plan.now.ordered.now.net → (texts : Texts) (design : Design) → Serves texts design plan.now.ordered.now.net → (bytes : Listed ℕ) × IsTraceText texts design plan.now.stimulus.now bytes
+        × (OnOk result (Appends (K.written sink.old) (K.written sink.new) bytes))
+        × (OnErr result ((n : ℕ) × Appends (K.written sink.old) (K.written sink.new) (take n bytes))) }
+    ensures shown { (texts : Texts) (design : Design) (serves : Serves texts design plan.now.ordered.now.net) (leaves : Listed Standing) → StandAt serves.of.placed plan.now.watch.now leaves
+        → (bytes : Listed ℕ) × IsWatchedText texts design (map flat_of leaves) plan.now.stimulus.now bytes
         × (OnOk result (Appends (K.written sink.old) (K.written sink.new) bytes))
         × (OnErr result ((n : ℕ) × Appends (K.written sink.old) (K.written sink.new) (take n bytes))) }
     ensures lines { (bytes : Listed ℕ) × IsRunText plan.now.ordered.now.net plan.now.watch.now first_state (given_from plan.now.stimulus.now 0 plan.now.stimulus.now.cycles) (trace_telling plan.now.ordered.now.net plan.now.watch.now) 0 bytes

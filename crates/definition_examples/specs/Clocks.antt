@@ -111,3 +111,21 @@ to_indexed = connect v_of_i (ref 20) ∷ []
 -- connect tick, v[i]
 abbrev pub from_indexed : List Stmt
 from_indexed = connect (ref 28) v_of_i ∷ []
+
+--   connect tick, clock
+--   invalidate tick
+abbrev pub invalidated : List Stmt
+invalidated = connect (ref 28) (ref 20) ∷ stmt.Invalidate (ref 28) ∷ []
+
+--   connect tick, clock
+--   connect tick, other
+abbrev pub twice : List Stmt
+twice = connect (ref 28) (ref 20) ∷ connect (ref 28) (ref 21) ∷ []
+
+-- Each component is a bundle `{ flip c : Clock }`, where c is 32.
+abbrev pub turned : Scope
+turned c = bundle (flipped 32 clock_type ∷ [])
+
+-- connect a, b: the flipped leaf of b (34) is driven from that of a (33)
+abbrev pub across : List Stmt
+across = connect (ref 33) (ref 34) ∷ []

@@ -3,9 +3,9 @@ use Rattle.std.proofs.Common.{◌≡◌, ℕ, ◌+◌, ◌-◌, ◌≤◌, List,
 use Rattle.std.specs.Prelude.{⊤, suc, max}
 use Rattle.fir_types.specs.declared.port.Port.{Port as ModulePort}
 use Rattle.fir_tree.specs.declared.expr.Expr.{Expr}
-use Rattle.fir_tree.specs.declared.stmt.Stmt.{Stmt}
-use Rattle.fir_tree.specs.declared.stmt.Arm.{Arm}
-use Rattle.depth_laws.specs.Blocks.{greatest, block_of, stmt_blocks, arm_blocks, body_blocks}
+use Rattle.item_lines.specs.declared.line.Line.{Line}
+use Rattle.item_lines.specs.declared.line.LineArm.{LineArm}
+use Rattle.depth_laws.specs.Blocks.{greatest, block_of, line_blocks, arm_blocks, body_blocks}
 use Rattle.depth_laws.proofs.Layers.{of-arm}
 
 -- one number of brackets, and one of suffixes
@@ -94,7 +94,7 @@ pub body_inner : (b : ℕ) (ports : List ModulePort) (ns : List ℕ) → b + 1 �
 body_inner b [] ns h k = block_inner b ns h k
 body_inner b (port ∷ ports) ns h k = inner b (greatest ns) h k
 
-pub arm_within : (b : ℕ) (condition : Expr) (body : List Stmt) (arms : List Arm) → block_of (map stmt_blocks body) ≤ 128 - b → greatest (map arm_blocks arms) ≤ 128 - b
+pub arm_within : (b : ℕ) (condition : Expr) (body : List Line) (arms : List LineArm) → block_of (map line_blocks body) ≤ 128 - b → greatest (map arm_blocks arms) ≤ 128 - b
     → greatest (map arm_blocks (record { condition = condition; body = body } ∷ arms)) ≤ 128 - b
 arm_within b condition body arms h k =
     both b (arm_blocks (record { condition = condition; body = body })) (greatest (map arm_blocks arms)) (same b _ _ (of-arm condition body) h) k

@@ -17,25 +17,29 @@ use Rattle.fir_tree.specs.declared.expr.Suffix.TheVariants as suffix
 use Rattle.fir_grammar.specs.Grammar.{A, Block, Spells, a_rule, a_piece, no_symbol, a_block, last_statement}
 use Rattle.fir_tree.specs.declared.stmt.Stmt.{the_lemmas}
 use Rattle.fir_tree.specs.declared.stmt.Stmt.TheVariants as stmt
-use Rattle.depth_laws.specs.Blocks.{stmt_blocks, body_blocks}
+use Rattle.item_lines.specs.declared.line.Line.{the_lemmas as line_lemmas}
+use Rattle.item_lines.specs.declared.line.Line.TheVariants as entry
+use Rattle.depth_laws.specs.Blocks.{line_blocks, body_blocks}
+use Rattle.item_lines.specs.Items.{padded}
+use Rattle.depth_laws.specs.Parts.{most_in_line}
 use Rattle.depth_laws.specs.Brackets.{type_brackets, expr_brackets}
 use Rattle.depth_laws.specs.Suffixes.{type_lengths, type_suffixes, expr_suffixes}
 use Rattle.depth_laws.proofs.Layers.{brackets-ref, brackets-index, suffixes-ref, suffixes-index}
 
 -- A `when` with nothing in it may be written without a block, and so it needs none.
-an_empty_when : (condition : Expr) → stmt_blocks (stmt.When (record { condition = condition; body = [] } ∷ []) []) ≡ 0
-an_empty_when condition = grind (arith, common_steps, the_lemmas)
+an_empty_when : (condition : Expr) → line_blocks (entry.Branch (record { condition = condition; body = [] } ∷ []) []) ≡ 0
+an_empty_when condition = grind (arith, common_steps, line_lemmas)
 
 -- One with a statement in it needs one, and so does a branch of `else` alone.
-a_when_with : (condition : Expr) (at : Place) → stmt_blocks (stmt.When (record { condition = condition; body = stmt.Skip at ∷ [] } ∷ []) []) ≡ 1
-a_when_with condition at = grind (arith, common_steps, the_lemmas)
+a_when_with : (condition : Expr) (at : Place) → line_blocks (entry.Branch (record { condition = condition; body = entry.Plain (stmt.Skip at) ∷ [] } ∷ []) []) ≡ 1
+a_when_with condition at = grind (arith, common_steps, the_lemmas, line_lemmas)
 
-an_else_with : (condition : Expr) (at : Place) → stmt_blocks (stmt.When (record { condition = condition; body = [] } ∷ []) (stmt.Skip at ∷ [])) ≡ 1
-an_else_with condition at = grind (arith, common_steps, the_lemmas)
+an_else_with : (condition : Expr) (at : Place) → line_blocks (entry.Branch (record { condition = condition; body = [] } ∷ []) (entry.Plain (stmt.Skip at) ∷ [])) ≡ 1
+an_else_with condition at = grind (arith, common_steps, the_lemmas, line_lemmas)
 
 -- A memory has one, also without a line. A module without ports and statements needs none.
-a_memory : (memory : Memory) → stmt_blocks (stmt.Mem memory) ≡ 1
-a_memory memory = grind (arith, common_steps, the_lemmas)
+a_memory : (memory : Memory) → line_blocks (entry.Plain (stmt.Mem memory)) ≡ 1
+a_memory memory = grind (arith, common_steps, the_lemmas, line_lemmas)
 
 an_empty_module : body_blocks [] [] ≡ 0
 an_empty_module = refl
@@ -82,6 +86,10 @@ module _ (at : Place) (a b : Name) (n : ℕ) (one : Number) where
   calls_count : (expr_brackets (call plain) ≡ 1) × (expr_brackets (call literal) ≡ 2)
   calls_count = (grind (arith, common_steps, expr_lemmas), grind (arith, common_steps, expr_lemmas))
 
+  -- `printf(a, a, "", not(UInt<3>(1)))` has two, for its own isn't counted, though the node that it stands for holds `pad(not(UInt<3>(1)), 0)`.
+  a_print_counts : (most_in_line type_brackets expr_brackets (entry.Print at plain plain [] (call literal ∷ [])) ≡ 2) × (expr_brackets (padded (call literal)) ≡ 3)
+  a_print_counts = (grind (arith, common_steps, expr_lemmas, line_lemmas), grind (arith, common_steps, expr_lemmas))
+
   -- `{ a : UInt<3>[3][3] }[3]` has two brackets around one another. The field's type has two suffixes, and the whole type has one.
   abbrev bundle : FirType
   bundle = record {
@@ -105,5 +113,5 @@ module _ (at : Place) (a b : Name) (n : ℕ) (one : Number) where
 
 -- The grammar has blocks with marks and nothing in them: such a list spells no statements, though a block is open in it. No text is laid
 -- out so.
-an_empty_block : (text : List ℕ) (from to : ℕ) (names : List (List ℕ)) → Spells text (A Block ∷ []) (Open from ∷ Close to ∷ []) names ([], tt) [] names
+an_empty_block : (text : List ℕ) (from to : ℕ) (names : List (List ℕ)) → Spells 3 text (A Block ∷ []) (Open from ∷ Close to ∷ []) names ([], tt) [] names
 an_empty_block text from to names = a_rule a_block (a_piece tt (a_rule last_statement (a_piece tt no_symbol) no_symbol)) no_symbol

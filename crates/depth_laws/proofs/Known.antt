@@ -3,8 +3,8 @@
 use Rattle.std.proofs.Common.{◌≡◌, ℕ, ◌+◌, ◌-◌, ◌≤◌, ◌||◌, Bool, true, false, if◌then◌else◌, List, [], ◌∷◌, length, Option, Some, None, refl, ap, arith}
 use Rattle.std.specs.Prelude.{⊤, suc, nat_le}
 use Rattle.std.proofs.lemmas.Bool.{leb-false, leb-true, true≢false, false≢true}
-use Rattle.fir_grammar.specs.Faults.{Levels, with_suffix, afresh, last_suffixes, without_last}
-use Rattle.depth_laws.proofs.Classes.{Class, A_text, An_opening, A_dot, A_square, A_closing, Another, Block_opens, Block_closes, past_class, deep_class}
+use Rattle.fir_grammar.specs.Faults.{Levels, with_suffix, afresh, last_suffixes, closed}
+use Rattle.depth_laws.proofs.Classes.{Class, A_text, An_opening, An_item, A_dot, A_square, A_closing, Another, Block_opens, Block_closes, past_class, deep_class}
 
 pub record Known : Type 0 where
   pub blocks : ℕ
@@ -31,6 +31,7 @@ others (h ∷ hs) = hs
 abbrev pub moves : Class → Known → Known
 moves A_text st = record { blocks = st.blocks; head = if st.dotted then st.head else Some 0; outer = st.outer; dotted = false }
 moves An_opening st = record { blocks = st.blocks; head = Some 0; outer = st.head ∷ st.outer; dotted = false }
+moves An_item st = record { blocks = st.blocks; head = st.head; outer = st.outer; dotted = false }
 moves A_dot st = record { blocks = st.blocks; head = more st.head; outer = st.outer; dotted = true }
 moves A_square st = record { blocks = st.blocks; head = Some 0; outer = more st.head ∷ st.outer; dotted = false }
 moves A_closing st = record { blocks = st.blocks; head = first st.outer; outer = others st.outer; dotted = false }
@@ -44,30 +45,22 @@ abbrev pub Counted : Option ℕ → Type 0 → Type 0
 Counted None X = ⊥
 Counted (Some k) X = X
 
-abbrev pub Inside : List (Option ℕ) → Type 0 → Type 0
-Inside [] X = ⊥
-Inside (h ∷ hs) X = X
-
 abbrev pub Guard : Class → Known → Type 0 → Type 0
 Guard A_dot st X = Counted st.head X
 Guard A_square st X = Counted st.head X
-Guard A_closing st X = Inside st.outer X
 Guard _ st X = X
 
 counted : (h : Option ℕ) (X : Type 0) → Counted h X → Counted h ⊤ × X
 counted None X x = absurd x
 counted (Some k) X x = (tt, x)
 
-inside : (hs : List (Option ℕ)) (X : Type 0) → Inside hs X → Inside hs ⊤ × X
-inside [] X x = absurd x
-inside (h ∷ hs) X x = (tt, x)
-
 pub guarded : (c : Class) (st : Known) (X : Type 0) → Guard c st X → Guard c st ⊤ × X
 guarded A_text st X x = (tt, x)
 guarded An_opening st X x = (tt, x)
+guarded An_item st X x = (tt, x)
 guarded A_dot st X x = counted st.head X x
 guarded A_square st X x = counted st.head X x
-guarded A_closing st X x = inside st.outer X x
+guarded A_closing st X x = (tt, x)
 guarded Another st X x = (tt, x)
 guarded Block_opens st X x = (tt, x)
 guarded Block_closes st X x = (tt, x)
@@ -114,17 +107,20 @@ stack_suffix : (ns : List ℕ) (h : Option ℕ) (hs : List (Option ℕ)) → Sta
 stack_suffix [] h hs a = absurd a
 stack_suffix (n ∷ ns) h hs a = (knows_more n h (a.0), a.1)
 
-stack_pop : (ns : List ℕ) (h : Option ℕ) (hs : List (Option ℕ)) → Inside hs ⊤ → Stack ns (h ∷ hs) → Stack (without_last ns) (first hs ∷ others hs)
-stack_pop [] h hs i a = absurd a
-stack_pop (n ∷ ns) h [] i a = absurd i
-stack_pop (n ∷ ns) h (g ∷ hs) i a = a.1
+stack_pop : (ns : List ℕ) (h : Option ℕ) (hs : List (Option ℕ)) → Stack ns (h ∷ hs) → Stack (closed ns) (first hs ∷ others hs)
+stack_pop [] h hs a = absurd a
+stack_pop (n ∷ []) h [] a = (tt, tt)
+stack_pop (n ∷ []) h (g ∷ hs) a = absurd (a.1)
+stack_pop (n ∷ m ∷ ns) h [] a = absurd (a.1)
+stack_pop (n ∷ m ∷ ns) h (g ∷ hs) a = a.1
 
 pub agrees_past : (c : Class) (at : Levels) (st : Known) → Guard c st ⊤ → Agrees at st → Agrees (past_class c at) (moves c st)
 agrees_past A_text at st g a = record { blocks = a.blocks; dotted = refl; stack = stack_text at.suffixes st.head st.outer at.dotted st.dotted a.dotted a.stack }
 agrees_past An_opening at st g a = record { blocks = a.blocks; dotted = refl; stack = (refl, a.stack) }
+agrees_past An_item at st g a = record { blocks = a.blocks; dotted = refl; stack = a.stack }
 agrees_past A_dot at st g a = record { blocks = a.blocks; dotted = refl; stack = stack_suffix at.suffixes st.head st.outer a.stack }
 agrees_past A_square at st g a = record { blocks = a.blocks; dotted = refl; stack = (refl, stack_suffix at.suffixes st.head st.outer a.stack) }
-agrees_past A_closing at st g a = record { blocks = a.blocks; dotted = refl; stack = stack_pop at.suffixes st.head st.outer g a.stack }
+agrees_past A_closing at st g a = record { blocks = a.blocks; dotted = refl; stack = stack_pop at.suffixes st.head st.outer a.stack }
 agrees_past Another at st g a = record { blocks = a.blocks; dotted = refl; stack = a.stack }
 agrees_past Block_opens at st g a = record { blocks = ap (λ n. n + 1) a.blocks; dotted = refl; stack = a.stack }
 agrees_past Block_closes at st g a = record { blocks = ap (λ n. n - 1) a.blocks; dotted = refl; stack = a.stack }
@@ -154,6 +150,7 @@ neither true q e = absurd (true≢false e)
 pub behind : (c : Class) (at : Levels) (st : Known) (X : Type 0) → Agrees at st → deep_class at c ≡ false → X → Behind c st X
 behind A_text at st X a e x = x
 behind An_opening at st X a e x = (few (length at.suffixes - 1) (length st.outer) (stack_brackets at.suffixes st.head st.outer a.stack) e, x)
+behind An_item at st X a e x = x
 behind A_dot at st X a e x = (few_counted at.suffixes st.head st.outer a.stack e, x)
 behind A_square at st X a e x =
     let both = neither (nat_le 128 (length at.suffixes - 1)) (nat_le 128 (last_suffixes at.suffixes)) e in
@@ -184,6 +181,7 @@ both_flat true q e h = absurd (true≢false e)
 pub ahead : (c : Class) (at : Levels) (st : Known) (X : Type 0) → Agrees at st → Guard c st ⊤ → Behind c st X → (deep_class at c ≡ false) × X
 ahead A_text at st X a g x = (refl, x)
 ahead An_opening at st X a g x = (flat (length at.suffixes - 1) (length st.outer) (stack_brackets at.suffixes st.head st.outer a.stack) (x.0), x.1)
+ahead An_item at st X a g x = (refl, x)
 ahead A_dot at st X a g x = (flat_counted at.suffixes st.head st.outer g a.stack (x.0), x.1)
 ahead A_square at st X a g x = (
   both_flat (nat_le 128 (length at.suffixes - 1)) (nat_le 128 (last_suffixes at.suffixes))

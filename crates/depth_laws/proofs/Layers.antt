@@ -15,87 +15,103 @@ use Rattle.fir_tree.specs.declared.expr.Expr.{Expr, the_lemmas as expr_lemmas}
 use Rattle.fir_tree.specs.declared.expr.Suffix.{Suffix}
 use Rattle.fir_tree.specs.declared.expr.Form.TheVariants as form
 use Rattle.fir_tree.specs.declared.expr.Suffix.TheVariants as suffix
-use Rattle.fir_tree.specs.declared.stmt.Stmt.{Stmt, the_lemmas}
+use Rattle.fir_tree.specs.declared.stmt.Stmt.{the_lemmas}
 use Rattle.fir_tree.specs.declared.stmt.Stmt.TheVariants as stmt
-use Rattle.fir_tree.specs.declared.stmt.Arm.{Arm}
-use Rattle.depth_laws.specs.Blocks.{greatest, block_of, stmt_blocks, arm_blocks}
-use Rattle.depth_laws.specs.Parts.{most_in_line, most_in_stmt, most_in_arm}
+use Rattle.fir_tree.specs.declared.print.Piece.{Piece}
+use Rattle.item_lines.specs.declared.line.Line.{Line, the_lemmas as line_lemmas}
+use Rattle.item_lines.specs.declared.line.Line.TheVariants as entry
+use Rattle.item_lines.specs.declared.line.LineArm.{LineArm}
+use Rattle.depth_laws.specs.Blocks.{greatest, block_of, line_blocks, arm_blocks}
+use Rattle.depth_laws.specs.Parts.{most_in_memory_line, most_in_line, most_in_arm}
 use Rattle.depth_laws.specs.Brackets.{type_brackets, field_brackets, expr_brackets, suffix_brackets}
 use Rattle.depth_laws.specs.Suffixes.{type_lengths, type_suffixes, field_suffixes, expr_suffixes, suffix_suffixes}
 
--- statements, by their blocks
+-- lines, by their blocks
 
-pub of-wire : (name : Name) (typ : FirType) → stmt_blocks (stmt.Wire name typ) ≡ 0
-of-wire name typ = grind (arith, common_steps, the_lemmas)
+pub of-wire : (name : Name) (typ : FirType) → line_blocks (entry.Plain (stmt.Wire name typ)) ≡ 0
+of-wire name typ = grind (arith, common_steps, the_lemmas, line_lemmas)
 
-pub of-reg : (name : Name) (typ : FirType) (clock : Expr) → stmt_blocks (stmt.Reg name typ clock) ≡ 0
-of-reg name typ clock = grind (arith, common_steps, the_lemmas)
+pub of-reg : (name : Name) (typ : FirType) (clock : Expr) → line_blocks (entry.Plain (stmt.Reg name typ clock)) ≡ 0
+of-reg name typ clock = grind (arith, common_steps, the_lemmas, line_lemmas)
 
-pub of-regreset : (name : Name) (typ : FirType) (clock reset init : Expr) → stmt_blocks (stmt.RegReset name typ clock reset init) ≡ 0
-of-regreset name typ clock reset init = grind (arith, common_steps, the_lemmas)
+pub of-regreset : (name : Name) (typ : FirType) (clock reset init : Expr) → line_blocks (entry.Plain (stmt.RegReset name typ clock reset init)) ≡ 0
+of-regreset name typ clock reset init = grind (arith, common_steps, the_lemmas, line_lemmas)
 
-pub of-mem : (memory : Memory) → stmt_blocks (stmt.Mem memory) ≡ 1
-of-mem memory = grind (arith, common_steps, the_lemmas)
+pub of-mem : (memory : Memory) → line_blocks (entry.Plain (stmt.Mem memory)) ≡ 1
+of-mem memory = grind (arith, common_steps, the_lemmas, line_lemmas)
 
-pub of-inst : (name of : Name) → stmt_blocks (stmt.Inst name of) ≡ 0
-of-inst name of = grind (arith, common_steps, the_lemmas)
+pub of-inst : (name of : Name) → line_blocks (entry.Plain (stmt.Inst name of)) ≡ 0
+of-inst name of = grind (arith, common_steps, the_lemmas, line_lemmas)
 
-pub of-node : (name : Name) (e : Expr) → stmt_blocks (stmt.Node name e) ≡ 0
-of-node name e = grind (arith, common_steps, the_lemmas)
+pub of-node : (name : Name) (e : Expr) → line_blocks (entry.Plain (stmt.Node name e)) ≡ 0
+of-node name e = grind (arith, common_steps, the_lemmas, line_lemmas)
 
-pub of-connect : (left right : Expr) → stmt_blocks (stmt.Connect left right) ≡ 0
-of-connect left right = grind (arith, common_steps, the_lemmas)
+pub of-connect : (left right : Expr) → line_blocks (entry.Plain (stmt.Connect left right)) ≡ 0
+of-connect left right = grind (arith, common_steps, the_lemmas, line_lemmas)
 
-pub of-invalidate : (target : Expr) → stmt_blocks (stmt.Invalidate target) ≡ 0
-of-invalidate target = grind (arith, common_steps, the_lemmas)
+pub of-invalidate : (target : Expr) → line_blocks (entry.Plain (stmt.Invalidate target)) ≡ 0
+of-invalidate target = grind (arith, common_steps, the_lemmas, line_lemmas)
 
-pub of-when : (arms : List Arm) (other : List Stmt) → stmt_blocks (stmt.When arms other) ≡ max (greatest (map arm_blocks arms)) (block_of (map stmt_blocks other))
-of-when arms other = grind (arith, common_steps, the_lemmas)
+pub of-skip : (at : Place) → line_blocks (entry.Plain (stmt.Skip at)) ≡ 0
+of-skip at = grind (arith, common_steps, the_lemmas, line_lemmas)
 
-pub of-skip : (at : Place) → stmt_blocks (stmt.Skip at) ≡ 0
-of-skip at = grind (arith, common_steps, the_lemmas)
+pub of-branch : (arms : List LineArm) (other : List Line) → line_blocks (entry.Branch arms other) ≡ max (greatest (map arm_blocks arms)) (block_of (map line_blocks other))
+of-branch arms other = grind (arith, common_steps, line_lemmas)
 
-pub of-arm : (condition : Expr) (body : List Stmt) → arm_blocks (record { condition = condition; body = body }) ≡ block_of (map stmt_blocks body)
-of-arm condition body = grind (arith, common_steps, the_lemmas)
+pub of-print : (at : Place) (clock condition : Expr) (pieces : List Piece) (arguments : List Expr) → line_blocks (entry.Print at clock condition pieces arguments) ≡ 0
+of-print at clock condition pieces arguments = grind (arith, common_steps, line_lemmas)
+
+pub of-stop : (at : Place) (clock condition : Expr) (code : ℕ) → line_blocks (entry.Stop at clock condition code) ≡ 0
+of-stop at clock condition code = grind (arith, common_steps, line_lemmas)
+
+pub of-arm : (condition : Expr) (body : List Line) → arm_blocks (record { condition = condition; body = body }) ≡ block_of (map line_blocks body)
+of-arm condition body = grind (arith, common_steps, line_lemmas)
 
 -- and by any count of types and expressions
 
 module _ (of_type : FirType → ℕ) (of_expr : Expr → ℕ) where
-  pub in-wire : (name : Name) (typ : FirType) → most_in_stmt of_type of_expr (stmt.Wire name typ) ≡ of_type typ
-  in-wire name typ = grind (arith, common_steps, the_lemmas)
+  pub in-wire : (name : Name) (typ : FirType) → most_in_line of_type of_expr (entry.Plain (stmt.Wire name typ)) ≡ of_type typ
+  in-wire name typ = grind (arith, common_steps, the_lemmas, line_lemmas)
 
-  pub in-reg : (name : Name) (typ : FirType) (clock : Expr) → most_in_stmt of_type of_expr (stmt.Reg name typ clock) ≡ max (of_type typ) (of_expr clock)
-  in-reg name typ clock = grind (arith, common_steps, the_lemmas)
+  pub in-reg : (name : Name) (typ : FirType) (clock : Expr) → most_in_line of_type of_expr (entry.Plain (stmt.Reg name typ clock)) ≡ max (of_type typ) (of_expr clock)
+  in-reg name typ clock = grind (arith, common_steps, the_lemmas, line_lemmas)
 
   pub in-regreset : (name : Name) (typ : FirType) (clock reset init : Expr)
-      → most_in_stmt of_type of_expr (stmt.RegReset name typ clock reset init) ≡ greatest (of_type typ ∷ of_expr clock ∷ of_expr reset ∷ of_expr init ∷ [])
-  in-regreset name typ clock reset init = grind (arith, common_steps, the_lemmas)
+      → most_in_line of_type of_expr (entry.Plain (stmt.RegReset name typ clock reset init)) ≡ greatest (of_type typ ∷ of_expr clock ∷ of_expr reset ∷ of_expr init ∷ [])
+  in-regreset name typ clock reset init = grind (arith, common_steps, the_lemmas, line_lemmas)
 
-  pub in-mem : (memory : Memory) → most_in_stmt of_type of_expr (stmt.Mem memory) ≡ greatest (map (most_in_line of_type of_expr) memory.lines)
-  in-mem memory = grind (arith, common_steps, the_lemmas)
+  pub in-mem : (memory : Memory) → most_in_line of_type of_expr (entry.Plain (stmt.Mem memory)) ≡ greatest (map (most_in_memory_line of_type of_expr) memory.lines)
+  in-mem memory = grind (arith, common_steps, the_lemmas, line_lemmas)
 
-  pub in-inst : (name of : Name) → most_in_stmt of_type of_expr (stmt.Inst name of) ≡ 0
-  in-inst name of = grind (arith, common_steps, the_lemmas)
+  pub in-inst : (name of : Name) → most_in_line of_type of_expr (entry.Plain (stmt.Inst name of)) ≡ 0
+  in-inst name of = grind (arith, common_steps, the_lemmas, line_lemmas)
 
-  pub in-node : (name : Name) (e : Expr) → most_in_stmt of_type of_expr (stmt.Node name e) ≡ of_expr e
-  in-node name e = grind (arith, common_steps, the_lemmas)
+  pub in-node : (name : Name) (e : Expr) → most_in_line of_type of_expr (entry.Plain (stmt.Node name e)) ≡ of_expr e
+  in-node name e = grind (arith, common_steps, the_lemmas, line_lemmas)
 
-  pub in-connect : (left right : Expr) → most_in_stmt of_type of_expr (stmt.Connect left right) ≡ max (of_expr left) (of_expr right)
-  in-connect left right = grind (arith, common_steps, the_lemmas)
+  pub in-connect : (left right : Expr) → most_in_line of_type of_expr (entry.Plain (stmt.Connect left right)) ≡ max (of_expr left) (of_expr right)
+  in-connect left right = grind (arith, common_steps, the_lemmas, line_lemmas)
 
-  pub in-invalidate : (target : Expr) → most_in_stmt of_type of_expr (stmt.Invalidate target) ≡ of_expr target
-  in-invalidate target = grind (arith, common_steps, the_lemmas)
+  pub in-invalidate : (target : Expr) → most_in_line of_type of_expr (entry.Plain (stmt.Invalidate target)) ≡ of_expr target
+  in-invalidate target = grind (arith, common_steps, the_lemmas, line_lemmas)
 
-  pub in-when : (arms : List Arm) (other : List Stmt)
-      → most_in_stmt of_type of_expr (stmt.When arms other) ≡ max (greatest (map (most_in_arm of_type of_expr) arms)) (greatest (map (most_in_stmt of_type of_expr) other))
-  in-when arms other = grind (arith, common_steps, the_lemmas)
+  pub in-skip : (at : Place) → most_in_line of_type of_expr (entry.Plain (stmt.Skip at)) ≡ 0
+  in-skip at = grind (arith, common_steps, the_lemmas, line_lemmas)
 
-  pub in-skip : (at : Place) → most_in_stmt of_type of_expr (stmt.Skip at) ≡ 0
-  in-skip at = grind (arith, common_steps, the_lemmas)
+  pub in-branch : (arms : List LineArm) (other : List Line)
+      → most_in_line of_type of_expr (entry.Branch arms other) ≡ max (greatest (map (most_in_arm of_type of_expr) arms)) (greatest (map (most_in_line of_type of_expr) other))
+  in-branch arms other = grind (arith, common_steps, line_lemmas)
 
-  pub in-arm : (condition : Expr) (body : List Stmt)
-      → most_in_arm of_type of_expr (record { condition = condition; body = body }) ≡ max (of_expr condition) (greatest (map (most_in_stmt of_type of_expr) body))
-  in-arm condition body = grind (arith, common_steps, the_lemmas)
+  pub in-print : (at : Place) (clock condition : Expr) (pieces : List Piece) (arguments : List Expr)
+      → most_in_line of_type of_expr (entry.Print at clock condition pieces arguments) ≡ greatest (of_expr clock ∷ of_expr condition ∷ map of_expr arguments)
+  in-print at clock condition pieces arguments = grind (arith, common_steps, line_lemmas)
+
+  pub in-stop : (at : Place) (clock condition : Expr) (code : ℕ) → most_in_line of_type of_expr (entry.Stop at clock condition code) ≡ max (of_expr clock) (of_expr condition)
+  in-stop at clock condition code = grind (arith, common_steps, line_lemmas)
+
+  pub in-arm : (condition : Expr) (body : List Line)
+      → most_in_arm of_type of_expr (record { condition = condition; body = body }) ≡ max (of_expr condition) (greatest (map (most_in_line of_type of_expr) body))
+  in-arm condition body = grind (arith, common_steps, line_lemmas)
 
 -- types
 

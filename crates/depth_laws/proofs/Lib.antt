@@ -11,6 +11,6 @@ mod Walks
 mod Solid
 mod Filled
 mod Led
-mod Exactly
 mod Few
+mod Exactly
 mod Examples

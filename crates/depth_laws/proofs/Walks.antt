@@ -4,7 +4,7 @@ use Rattle.std.specs.Prelude.{⊤}
 use Rattle.fir_layout.specs.declared.laid.Laid.{Laid}
 use Rattle.fir_layout.specs.declared.laid.Laid.TheVariants as laid
 use Rattle.fir_layout.specs.Pieces.{Piece, piece_of, pieces_of}
-use Rattle.fir_grammar.specs.Grammar.{Terminal, Takes, Symbol, A, Rule, IsCase, Values, tree, Spells, Text, Lengths, Base_type, a_text, no_modules, some_modules, last_module, next_module, a_module, no_module_body, a_module_body, next_port, last_port, an_input, an_output, a_type, last_length, next_length, an_unsigned, a_signed, a_clock, a_reset, a_bundle, no_width, a_width, last_field, next_field, plain_field, flipped_field, last_statement, next_statement, a_wire, a_register, a_reset_register, a_memory, an_instance, a_node, a_connect, an_invalidate, a_when, a_skip, no_branch, else_when, else_, no_block, a_block, last_memory_line, next_memory_line, a_data_type, a_depth, a_read_latency, a_write_latency, a_read_under_write, under_old, under_new, under_undefined, a_reader, a_writer, a_readwriter, a_reference, a_mux, an_operation, no_more_expressions, one_more_expression, no_more_numbers, one_more_number, a_component, no_suffix, a_field_suffix, an_element_suffix, an_index_suffix, an_unsigned_literal, a_signed_literal, a_wide_unsigned_literal, a_wide_signed_literal, a_plain_integer, a_negative_integer, a_quoted_integer, no_symbol, a_rule, a_piece, a_place, a_name, a_magnitude, a_placed_magnitude, a_quoted}
+use Rattle.fir_grammar.specs.Grammar.{Terminal, Takes, Symbol, A, Rule, IsCase, Values, tree, Spells, Text, Lengths, Base_type, a_text, no_modules, some_modules, last_module, next_module, a_module, a_public_module, no_module_body, a_module_body, next_port, last_port, an_input, an_output, a_type, last_length, next_length, an_unsigned, a_signed, a_clock, a_reset, a_bundle, no_width, a_width, last_field, next_field, plain_field, flipped_field, last_statement, next_statement, a_wire, a_register, a_reset_register, a_memory, an_instance, a_node, a_connect, an_invalidate, a_when, a_skip, a_print, printed, a_stop, without_label, with_label, no_branch, else_when, else_, no_block, a_block, last_memory_line, next_memory_line, a_data_type, a_depth, a_read_latency, a_write_latency, a_read_under_write, under_old, under_new, under_undefined, a_reader, a_writer, a_readwriter, a_reference, a_mux, an_operation, no_more_expressions, one_more_expression, no_more_numbers, one_more_number, a_component, no_suffix, a_field_suffix, an_element_suffix, an_index_suffix, an_unsigned_literal, a_signed_literal, a_wide_unsigned_literal, a_wide_signed_literal, a_plain_integer, a_negative_integer, a_quoted_integer, no_symbol, a_rule, a_piece, a_place, a_name, a_magnitude, a_placed_magnitude, a_quoted, a_format}
 use Rattle.fir_grammar.specs.Faults.{Levels, no_levels, past, is_deep}
 use Rattle.depth_laws.specs.Suffixes.{type_lengths}
 use Rattle.depth_laws.proofs.Shallow.{Shallow}
@@ -29,26 +29,27 @@ passed s p at st X t a e x = behind (class_of s) at st X a (sym (deep_as s p at 
 
 -- what is spelled for a type begins with a base type
 
-base_plain : {body : List Symbol} (case : IsCase Base_type body) (ws : Values body) → (type_lengths (tree case ws)).0 ≡ 0
-base_plain an_unsigned (at, (width, _)) = ap (λ p. p.0) (lengths-unsigned at width)
-base_plain a_signed (at, (width, _)) = ap (λ p. p.0) (lengths-signed at width)
-base_plain a_clock (at, _) = ap (λ p. p.0) (lengths-clock at)
-base_plain a_reset (at, _) = ap (λ p. p.0) (lengths-reset at)
-base_plain a_bundle (at, (fields, _)) = ap (λ p. p.0) (lengths-bundle at fields)
+base_plain : {body : List Symbol} (major : ℕ) (case : IsCase Base_type body) (ws : Values body) → (type_lengths (tree major case ws)).0 ≡ 0
+base_plain major an_unsigned (at, (width, _)) = ap (λ p. p.0) (lengths-unsigned at width)
+base_plain major a_signed (at, (width, _)) = ap (λ p. p.0) (lengths-signed at width)
+base_plain major a_clock (at, _) = ap (λ p. p.0) (lengths-clock at)
+base_plain major a_reset (at, _) = ap (λ p. p.0) (lengths-reset at)
+base_plain major a_bundle (at, (fields, _)) = ap (λ p. p.0) (lengths-bundle at fields)
 
-module _ (text : List ℕ) where
+module _ (major : ℕ) (text : List ℕ) where
   first_plain : {ls rest : List Laid} {names after : List (List ℕ)} {vs : Values (A Base_type ∷ A Lengths ∷ [])}
-      → Spells text (A Base_type ∷ A Lengths ∷ []) ls names vs rest after → (type_lengths vs.0).0 ≡ 0
-  first_plain (a_rule {ws = ws} case inner more) = base_plain case ws
+      → Spells major text (A Base_type ∷ A Lengths ∷ []) ls names vs rest after → (type_lengths vs.0).0 ≡ 0
+  first_plain (a_rule {ws = ws} case inner more) = base_plain major case ws
 
   spelled_plain : {r : Rule} {body : List Symbol} (case : IsCase r body) {ls rest : List Laid} {names after : List (List ℕ)} {ws : Values body}
-      → Spells text body ls names ws rest after → Plain case ws
+      → Spells major text body ls names ws rest after → Plain case ws
   spelled_plain a_text s = tt
   spelled_plain no_modules s = tt
   spelled_plain some_modules s = tt
   spelled_plain last_module s = tt
   spelled_plain next_module s = tt
   spelled_plain a_module s = tt
+  spelled_plain a_public_module s = tt
   spelled_plain no_module_body s = tt
   spelled_plain a_module_body s = tt
   spelled_plain next_port s = tt
@@ -81,6 +82,11 @@ module _ (text : List ℕ) where
   spelled_plain an_invalidate s = tt
   spelled_plain a_when s = tt
   spelled_plain a_skip s = tt
+  spelled_plain a_print s = tt
+  spelled_plain (printed n) s = tt
+  spelled_plain a_stop s = tt
+  spelled_plain without_label s = tt
+  spelled_plain with_label s = tt
   spelled_plain no_branch s = tt
   spelled_plain else_when s = tt
   spelled_plain else_ s = tt
@@ -125,7 +131,7 @@ module _ (text : List ℕ) where
     agrees : Agrees end (past_symbols ss st)
     shallow : Shallow end (pieces_of text rest)
 
-  walked : {ss : List Symbol} {ls rest : List Laid} {names after : List (List ℕ)} {vs : Values ss} → Spells text ss ls names vs rest after
+  walked : {ss : List Symbol} {ls rest : List Laid} {names after : List (List ℕ)} {vs : Values ss} → Spells major text ss ls names vs rest after
       → (at : Levels) (st : Known) → Agrees at st → Ready ss st → Shallow at (pieces_of text ls) → Walked ss vs st rest
   walked no_symbol at st a q h = record { within = tt; end = at; agrees = a; shallow = h }
   walked (a_rule {r = r} {ss = ss} {body = body} {ws = ws} {vs = vs} case inner more) at st a q h =
@@ -136,7 +142,7 @@ module _ (text : List ℕ) where
       let e : Agrees i.end (past_rule r st) = agrees_weaker i.end (past_symbols body from) (past_rule r st) (case_past case st.blocks st.head st.outer (w.0)) i.agrees in
       let v = walked more i.end (past_rule r st) e (w.1) i.shallow in
       record {
-        within = (case_within case st.blocks st.head st.outer ws (w.0) (spelled_plain case inner) i.within, v.within);
+        within = (case_within major case st.blocks st.head st.outer ws (w.0) (spelled_plain case inner) i.within, v.within);
         end = v.end;
         agrees = v.agrees;
         shallow = v.shallow;
@@ -171,10 +177,15 @@ module _ (text : List ℕ) where
       let g = guarded (class_of s) st (Ready ss (moves (class_of s) st)) q in
       let w = walked more (past at p) (moves (class_of s) st) (step s p at st t (g.0) a) (g.1) (h.1) in
       record { within = passed s p at st (AllWithin ss (moves (class_of s) st) vs) t a (h.0) w.within; end = w.end; agrees = w.agrees; shallow = w.shallow }
+  walked (a_format {s = s} {ss = ss} {token = token} {vs = vs} t n more) at st a q h =
+      let p : Piece = piece_of text (laid.Item token) in
+      let g = guarded (class_of s) st (Ready ss (moves (class_of s) st)) q in
+      let w = walked more (past at p) (moves (class_of s) st) (step s p at st t (g.0) a) (g.1) (h.1) in
+      record { within = passed s p at st (AllWithin ss (moves (class_of s) st) vs) t a (h.0) w.within; end = w.end; agrees = w.agrees; shallow = w.shallow }
 
   pub start_agrees : Agrees no_levels (start 0 (Some 0) [])
   start_agrees = record { blocks = refl; dotted = refl; stack = (refl, tt) }
 
-  pub all_within : {ls : List Laid} {names after : List (List ℕ)} {vs : Values (A Text ∷ [])} → Spells text (A Text ∷ []) ls names vs [] after
+  pub all_within : {ls : List Laid} {names after : List (List ℕ)} {vs : Values (A Text ∷ [])} → Spells major text (A Text ∷ []) ls names vs [] after
       → Shallow no_levels (pieces_of text ls) → Within Text 0 (Some 0) [] vs.0
   all_within s h = (walked s no_levels (start 0 (Some 0) []) start_agrees tt h).within.0

@@ -1,16 +1,16 @@
--- How many brackets of a circuit are around one another (FIRRTL specification 3.0, "Types", "Expressions"): the `{` of a bundle, the `[`
--- of a vector's length, of an element and of an index, and the `(` of a literal, of an operation and of a `mux`. The `<` of a width is no
--- bracket. A length stands behind its type and not around it, and so does a suffix.
-use Rattle.std.specs.Prelude.{ℕ, ◌+◌, max}
+-- How many brackets of a text are around one another (FIRRTL specification 3.0, "Types", "Expressions"): the `{` of a bundle, the `[` of a
+-- vector's length, of an element and of an index, and the `(` of a literal, of an operation and of a `mux`. The `<` of a width is no
+-- bracket, and that of a `printf` or `stop` isn't counted. A length stands behind its type and not around it, and so does a suffix.
+use Rattle.std.specs.Prelude.{ℕ, ◌+◌, max, List}
 use Rattle.fir_types.specs.declared.fir_type.FirType.{FirType, fold-FirType}
 use Rattle.fir_types.specs.declared.fir_type.Shape.TheOpen.{Shape-F}
 use Rattle.fir_types.specs.declared.fir_type.Field.{Field, fold-Field}
-use Rattle.fir_tree.specs.declared.circuit.Circuit.{Circuit}
 use Rattle.fir_tree.specs.declared.expr.Expr.{Expr, fold-Expr}
 use Rattle.fir_tree.specs.declared.expr.Suffix.{Suffix, fold-Suffix}
 use Rattle.fir_tree.specs.declared.expr.Form.TheOpen.{Form-F, Suffix-F}
+use Rattle.item_lines.specs.declared.line.LineModule.{LineModule}
 use Rattle.depth_laws.specs.Blocks.{greatest}
-use Rattle.depth_laws.specs.Parts.{most_in_circuit}
+use Rattle.depth_laws.specs.Parts.{most_in_text}
 
 abbrev pub brackets_of_shape : Shape-F ℕ ℕ ℕ → ℕ
 brackets_of_shape (Shape-F.Unsigned width) = 0
@@ -44,5 +44,5 @@ expr_brackets = fold-Expr ℕ ℕ ℕ brackets_of_form brackets_of_suffix (λ e.
 abbrev pub suffix_brackets : Suffix → ℕ
 suffix_brackets = fold-Suffix ℕ ℕ ℕ brackets_of_form brackets_of_suffix (λ e. e.form)
 
-abbrev pub circuit_brackets : Circuit → ℕ
-circuit_brackets = most_in_circuit type_brackets expr_brackets
+abbrev pub text_brackets : List LineModule → ℕ
+text_brackets = most_in_text type_brackets expr_brackets

@@ -1,16 +1,16 @@
--- How many suffixes one reference or one type of a circuit has at most (FIRRTL specification 3.0, "Types", "Expressions"): the `.f`, `[3]`
+-- How many suffixes one reference or one type of a text has at most (FIRRTL specification 3.0, "Types", "Expressions"): the `.f`, `[3]`
 -- and `[e]` behind the name of a component, and the lengths `[n]` behind a type that is no vector. An index is a reference of its own,
 -- and so is the type of a field a type of its own.
-use Rattle.std.specs.Prelude.{ℕ, ◌+◌, max, length}
+use Rattle.std.specs.Prelude.{ℕ, ◌+◌, max, List, length}
 use Rattle.fir_types.specs.declared.fir_type.FirType.{FirType, fold-FirType}
 use Rattle.fir_types.specs.declared.fir_type.Shape.TheOpen.{Shape-F, Field-F}
 use Rattle.fir_types.specs.declared.fir_type.Field.{Field, fold-Field}
-use Rattle.fir_tree.specs.declared.circuit.Circuit.{Circuit}
 use Rattle.fir_tree.specs.declared.expr.Expr.{Expr, fold-Expr}
 use Rattle.fir_tree.specs.declared.expr.Suffix.{Suffix, fold-Suffix}
 use Rattle.fir_tree.specs.declared.expr.Form.TheOpen.{Form-F, Suffix-F}
+use Rattle.item_lines.specs.declared.line.LineModule.{LineModule}
 use Rattle.depth_laws.specs.Blocks.{greatest}
-use Rattle.depth_laws.specs.Parts.{most_in_circuit}
+use Rattle.depth_laws.specs.Parts.{most_in_text}
 
 -- of a type: its own lengths, and the most that a type of a field within it has
 abbrev pub lengths_of_shape : Shape-F (ℕ × ℕ) ℕ (ℕ × ℕ) → ℕ × ℕ
@@ -51,5 +51,5 @@ expr_suffixes = fold-Expr ℕ ℕ ℕ suffixes_of_form suffixes_of_suffix (λ e.
 abbrev pub suffix_suffixes : Suffix → ℕ
 suffix_suffixes = fold-Suffix ℕ ℕ ℕ suffixes_of_form suffixes_of_suffix (λ e. e.form)
 
-abbrev pub circuit_suffixes : Circuit → ℕ
-circuit_suffixes = most_in_circuit type_suffixes expr_suffixes
+abbrev pub text_suffixes : List LineModule → ℕ
+text_suffixes = most_in_text type_suffixes expr_suffixes

@@ -29,7 +29,7 @@ module _ (text : List ℕ) (list : List Laid) (i brackets : ℕ) (s : StandsIn (
   numbers_none l count old h none = rw none (record {
     numbers = [];
     added = append_nothing old;
-    read = λ names. passed_case no_more_numbers (enters_by_piece (pieces_of text list) i no_more_numbers (piece_of text l) (piece_at text list i l h) (λ ps. refl))
+    read = λ major names. passed_case no_more_numbers (enters_by_piece (pieces_of text list) i no_more_numbers (piece_of text l) (piece_at text list i l h) (λ ps. refl))
         (passed_nothing text list i brackets names l s h);
   })
 
@@ -48,16 +48,16 @@ module _ (text : List ℕ) (list : List Laid) (i brackets : ℕ) (s : StandsIn (
 
     pub numbers_refused_later : (count n : ℕ) {fault : ParseFault} → count ≡ suc n → IsRefused (A (Numbers n) ∷ []) text list (i + 1) fault → IsRefused (A (Numbers count) ∷ []) text list i fault
     numbers_refused_later count n more refused =
-        rw more (refused_case (one_more_number n) (enters_number _ n number.taken.here) (refused_behind (passed_number [] s number).read refused))
+        rw more (refused_case (one_more_number n) (enters_number _ n number.taken.here) (refused_behind (passed_number {major = 3} [] s number).read refused))
 
     pub numbers_more : (count n : ℕ) (old new : List ℕ) (j : ℕ) → count ≡ suc n → AddsNumbers text list (i + 1) n (old ++ x ∷ []) new j → AddsNumbers text list i count old new j
     numbers_more count n old new j more others = rw more (record {
       numbers = x ∷ others.numbers;
       added = others.added ∙ append_one old others.numbers x;
-      read = λ names. passed_case (one_more_number n) (enters_number _ n number.taken.here) (passed_then (passed_number names s number) (others.read names));
+      read = λ major names. passed_case (one_more_number n) (enters_number _ n number.taken.here) (passed_then (passed_number names s number) (others.read major names));
     })
 
 -- the numbers are all of the list
-pub numbers_all : {text : List ℕ} {list : List Laid} {i count j : ℕ} {old new : List ℕ} → AddsNumbers text list i count old new j → old ≡ [] → (names : List (List ℕ))
-    → HasPassed (A (Numbers count) ∷ []) text list i names (new, tt) j names
-numbers_all adds none names = rw (adds.added, none) (adds.read names)
+pub numbers_all : {major : ℕ} {text : List ℕ} {list : List Laid} {i count j : ℕ} {old new : List ℕ} → AddsNumbers text list i count old new j → old ≡ [] → (names : List (List ℕ))
+    → HasPassed major (A (Numbers count) ∷ []) text list i names (new, tt) j names
+numbers_all {major} adds none names = rw (adds.added, none) (adds.read major names)

@@ -128,7 +128,7 @@ module _ (text : List ℕ) (list : List Laid) (i brackets : ℕ) (s : StandsIn (
     pub plain_no_number : {fault : ParseFault} → IsNotTaken A_number text list i fault → IsRefused (A Integer ∷ []) text list i fault
     plain_no_number refused = refused_case a_plain_integer enters_plain (refused.refused Its_magnitude)
 
-    pub plain_read : (names : List (List ℕ)) (at : Place) (n : ℕ) → IsNumberAt text list i at n → HasPassed (A Integer ∷ []) text list i names (record { negative = false; magnitude = n }, tt) (i + 1) names
+    pub plain_read : {major : ℕ} (names : List (List ℕ)) (at : Place) (n : ℕ) → IsNumberAt text list i at n → HasPassed major (A Integer ∷ []) text list i names (record { negative = false; magnitude = n }, tt) (i + 1) names
     plain_read names at n number = passed_case a_plain_integer enters_plain (passed_number names s number)
 
   -- a minus and a number
@@ -136,15 +136,15 @@ module _ (text : List ℕ) (list : List Laid) (i brackets : ℕ) (s : StandsIn (
     enters_negative : Enters (pieces_of text list) i a_negative_integer
     enters_negative = enters_by_piece (pieces_of text list) i a_negative_integer (piece_of text l) (piece_at text list i l mark.here) (λ ps. rw (is_mark_first 45 (piece_of text l) ps mark.takes) refl)
 
-    minus : (names : List (List ℕ)) → HasPassed (Is Nothing (The_mark 45) ∷ []) text list i names tt (i + 1) names
-    minus names = passed_mark 45 names s (λ at. refl) mark
+    minus : (major : ℕ) (names : List (List ℕ)) → HasPassed major (Is Nothing (The_mark 45) ∷ []) text list i names tt (i + 1) names
+    minus major names = passed_mark 45 names s (λ at. refl) mark
 
     pub negative_no_number : {fault : ParseFault} → IsNotTaken A_number text list (i + 1) fault → IsRefused (A Integer ∷ []) text list i fault
-    negative_no_number refused = refused_case a_negative_integer enters_negative (refused_behind (minus []).read (refused.refused Its_magnitude))
+    negative_no_number refused = refused_case a_negative_integer enters_negative (refused_behind (minus 3 []).read (refused.refused Its_magnitude))
 
-    pub negative_read : (names : List (List ℕ)) (at : Place) (n : ℕ) → IsNumberAt text list (i + 1) at n
-        → HasPassed (A Integer ∷ []) text list i names (record { negative = true; magnitude = n }, tt) (i + 1 + 1) names
-    negative_read names at n number = passed_case a_negative_integer enters_negative (passed_then (minus names) (passed_number names (whole_stands (minus names).whole s) number))
+    pub negative_read : {major : ℕ} (names : List (List ℕ)) (at : Place) (n : ℕ) → IsNumberAt text list (i + 1) at n
+        → HasPassed major (A Integer ∷ []) text list i names (record { negative = true; magnitude = n }, tt) (i + 1 + 1) names
+    negative_read {major} names at n number = passed_case a_negative_integer enters_negative (passed_then (minus major names) (passed_number names (whole_stands (minus major names).whole s) number))
 
   -- a string
   module _ (l : Laid) (h : slice_get list i ≡ Some l) where
@@ -158,7 +158,7 @@ module _ (text : List ℕ) (list : List Laid) (i brackets : ℕ) (s : StandsIn (
     no_quoted_part none m g takes = none (rw (one_at list i m l g h) at takes)
 
   module _ (token : Token) (h : slice_get list i ≡ Some (Item token)) (e : token.kind ≡ kind.Text) (n : Number) (q : IsQuotedNumber (bytes_of text token) n.negative n.magnitude) (names : List (List ℕ)) where
-    string_passed : HasPassed (Is Its_number A_quoted_number ∷ []) text list i names (n, tt) (i + 1) names
+    string_passed : {major : ℕ} → HasPassed major (Is Its_number A_quoted_number ∷ []) text list i names (n, tt) (i + 1) names
     string_passed =
         let takes = string_taken token.kind (bytes_of text token) n e q in
         record {
@@ -167,5 +167,5 @@ module _ (text : List ℕ) (list : List Laid) (i brackets : ℕ) (s : StandsIn (
           room = room_step names list i (Item token) h;
         }
 
-    pub quoted_read : HasPassed (A Integer ∷ []) text list i names (n, tt) (i + 1) names
+    pub quoted_read : {major : ℕ} → HasPassed major (A Integer ∷ []) text list i names (n, tt) (i + 1) names
     quoted_read = passed_case a_quoted_integer (enters_quoted (Item token) h (string_is token.kind (bytes_of text token) e)) string_passed

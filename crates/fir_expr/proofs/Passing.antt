@@ -96,40 +96,40 @@ room_name names after list i token h grows =
 
 -- composition
 
-pub passed_then : {ss more : List Symbol} {text : List ℕ} {list : List Laid} {i j k : ℕ} {names between after : List (List ℕ)} {vs : Values ss} {ws : Values more}
-    → HasPassed ss text list i names vs j between → HasPassed more text list j between ws k after → HasPassed (ss ++ more) text list i names (joined ss more vs ws) k after
+pub passed_then : {major : ℕ} {ss more : List Symbol} {text : List ℕ} {list : List Laid} {i j k : ℕ} {names between after : List (List ℕ)} {vs : Values ss} {ws : Values more}
+    → HasPassed major ss text list i names vs j between → HasPassed major more text list j between ws k after → HasPassed major (ss ++ more) text list i names (joined ss more vs ws) k after
 passed_then a b = record { read = read_then a.read b.read; whole = whole_then a.whole b.whole; room = omega (arith, a.room, b.room) }
 
-pub passed_case : {r : Rule} {body : List Symbol} {text : List ℕ} {list : List Laid} {i j : ℕ} {names after : List (List ℕ)} {ws : Values body} (case : IsCase r body)
-    → Enters (pieces_of text list) i case → HasPassed body text list i names ws j after → HasPassed (A r ∷ []) text list i names (tree case ws, tt) j after
+pub passed_case : {major : ℕ} {r : Rule} {body : List Symbol} {text : List ℕ} {list : List Laid} {i j : ℕ} {names after : List (List ℕ)} {ws : Values body} (case : IsCase r body)
+    → Enters (pieces_of text list) i case → HasPassed major body text list i names ws j after → HasPassed major (A r ∷ []) text list i names (tree major case ws, tt) j after
 passed_case case enters h = record { read = read_case case enters h.read; whole = h.whole; room = h.room }
 
 -- single pieces
 
-pub read_mark : {m : ℕ} {text : List ℕ} {list : List Laid} {i : ℕ} (names : List (List ℕ)) {l : Laid} → IsTaken (The_mark m) text list i l → HasRead (Is Nothing (The_mark m) ∷ []) text list i names tt (i + 1) names
+pub read_mark : {major : ℕ} {m : ℕ} {text : List ℕ} {list : List Laid} {i : ℕ} (names : List (List ℕ)) {l : Laid} → IsTaken (The_mark m) text list i l → HasRead major (Is Nothing (The_mark m) ∷ []) text list i names tt (i + 1) names
 read_mark names t = read_piece t.here t.takes t.flat (a_piece t.takes no_symbol)
 
-pub read_placed : {s : Terminal} {text : List ℕ} {list : List Laid} {i : ℕ} (names : List (List ℕ)) {l : Laid} → IsTaken s text list i l
-    → HasRead (Is Its_place s ∷ []) text list i names (place text (start_of l), tt) (i + 1) names
+pub read_placed : {major : ℕ} {s : Terminal} {text : List ℕ} {list : List Laid} {i : ℕ} (names : List (List ℕ)) {l : Laid} → IsTaken s text list i l
+    → HasRead major (Is Its_place s ∷ []) text list i names (place text (start_of l), tt) (i + 1) names
 read_placed names t = read_piece t.here t.takes t.flat (a_place t.takes no_symbol)
 
-pub read_magnitude_at : {text : List ℕ} {list : List Laid} {i n : ℕ} (names : List (List ℕ)) {at : Place} → IsNumberAt text list i at n → HasRead (Is Its_magnitude A_number ∷ []) text list i names (n, tt) (i + 1) names
+pub read_magnitude_at : {major : ℕ} {text : List ℕ} {list : List Laid} {i n : ℕ} (names : List (List ℕ)) {at : Place} → IsNumberAt text list i at n → HasRead major (Is Its_magnitude A_number ∷ []) text list i names (n, tt) (i + 1) names
 read_magnitude_at names t = read_piece t.taken.here t.taken.takes t.taken.flat (a_magnitude t.taken.takes t.is no_symbol)
 
-pub read_placed_magnitude : {text : List ℕ} {list : List Laid} {i n : ℕ} (names : List (List ℕ)) {at : Place} → IsNumberAt text list i at n
-    → HasRead (Is Its_place_and_magnitude A_number ∷ []) text list i names (at, (n, tt)) (i + 1) names
+pub read_placed_magnitude : {major : ℕ} {text : List ℕ} {list : List Laid} {i n : ℕ} (names : List (List ℕ)) {at : Place} → IsNumberAt text list i at n
+    → HasRead major (Is Its_place_and_magnitude A_number ∷ []) text list i names (at, (n, tt)) (i + 1) names
 read_placed_magnitude names t = rw t.place (read_piece t.taken.here t.taken.takes t.taken.flat (a_placed_magnitude t.taken.takes t.is no_symbol))
 
-name_read : (s : Terminal) (text : List ℕ) (list : List Laid) (i : ℕ) (names after : List (List ℕ)) (id : ℕ) (at : Place) (token : Token) → IsTaken s text list i (Item token)
-    → AddsName names after (name_in token.kind (bytes_of text token)) id → at ≡ place text token.start → HasRead (Is Its_name s ∷ []) text list i names (record { id = id; place = at }, tt) (i + 1) after
+name_read : {major : ℕ} (s : Terminal) (text : List ℕ) (list : List Laid) (i : ℕ) (names after : List (List ℕ)) (id : ℕ) (at : Place) (token : Token) → IsTaken s text list i (Item token)
+    → AddsName names after (name_in token.kind (bytes_of text token)) id → at ≡ place text token.start → HasRead major (Is Its_name s ∷ []) text list i names (record { id = id; place = at }, tt) (i + 1) after
 name_read s text list i names after id at token t adds e = rw e (read_piece t.here t.takes t.flat (a_name t.takes adds no_symbol))
 
-pub read_name_at : {s : Terminal} {text : List ℕ} {list : List Laid} {i : ℕ} {names after : List (List ℕ)} {name : Name} → IsNameAt s text list i names name after
-    → HasRead (Is Its_name s ∷ []) text list i names (name, tt) (i + 1) after
+pub read_name_at : {major : ℕ} {s : Terminal} {text : List ℕ} {list : List Laid} {i : ℕ} {names after : List (List ℕ)} {name : Name} → IsNameAt s text list i names name after
+    → HasRead major (Is Its_name s ∷ []) text list i names (name, tt) (i + 1) after
 read_name_at {s} {text} {list} {i} {names} {after} {name} t = name_read s text list i names after name.id name.place t.token t.taken t.adds t.place
 
-pub passed_mark : (m : ℕ) {text : List ℕ} {list : List Laid} {i brackets : ℕ} (names : List (List ℕ)) {l : Laid} → StandsIn (pieces_of text list) i brackets → IsPlain m → IsTaken (The_mark m) text list i l
-    → HasPassed (Is Nothing (The_mark m) ∷ []) text list i names tt (i + 1) names
+pub passed_mark : {major : ℕ} (m : ℕ) {text : List ℕ} {list : List Laid} {i brackets : ℕ} (names : List (List ℕ)) {l : Laid} → StandsIn (pieces_of text list) i brackets → IsPlain m → IsTaken (The_mark m) text list i l
+    → HasPassed major (Is Nothing (The_mark m) ∷ []) text list i names tt (i + 1) names
 passed_mark m {text} {list} {i} names {l} s simple t = record {
   read = read_mark names t;
   whole = whole_plain (piece_of text l) s (piece_at text list i l t.here) (mark_past (levels (take i (pieces_of text list))) m (piece_of text l) t.takes ∙ simple (levels (take i (pieces_of text list))));
@@ -166,22 +166,22 @@ whole_texts s {text} {list} {i} {brackets} {l} is stands t = whole_text (piece_o
 pub begins_texts : (s : Terminal) {text : List ℕ} {list : List Laid} {i brackets : ℕ} {l : Laid} → IsTexts s → StandsIn (pieces_of text list) i brackets → IsTaken s text list i l → BeginsType (pieces_of text list) (i + 1) brackets
 begins_texts s {text} {list} {i} {brackets} {l} is stands t = begins_text (piece_of text l) stands (piece_at text list i l t.here) (text_past s (levels (take i (pieces_of text list))) (piece_of text l) is t.takes)
 
-pub passed_number : {text : List ℕ} {list : List Laid} {i brackets n : ℕ} (names : List (List ℕ)) {at : Place} → StandsIn (pieces_of text list) i brackets → IsNumberAt text list i at n
-    → HasPassed (Is Its_magnitude A_number ∷ []) text list i names (n, tt) (i + 1) names
+pub passed_number : {major : ℕ} {text : List ℕ} {list : List Laid} {i brackets n : ℕ} (names : List (List ℕ)) {at : Place} → StandsIn (pieces_of text list) i brackets → IsNumberAt text list i at n
+    → HasPassed major (Is Its_magnitude A_number ∷ []) text list i names (n, tt) (i + 1) names
 passed_number {text} {list} {i} names s t = record { read = read_magnitude_at names t; whole = whole_texts A_number tt s t.taken; room = room_step names list i (Item t.token) t.taken.here }
 
-pub passed_placed_number : {text : List ℕ} {list : List Laid} {i brackets n : ℕ} (names : List (List ℕ)) {at : Place} → StandsIn (pieces_of text list) i brackets → IsNumberAt text list i at n
-    → HasPassed (Is Its_place_and_magnitude A_number ∷ []) text list i names (at, (n, tt)) (i + 1) names
+pub passed_placed_number : {major : ℕ} {text : List ℕ} {list : List Laid} {i brackets n : ℕ} (names : List (List ℕ)) {at : Place} → StandsIn (pieces_of text list) i brackets → IsNumberAt text list i at n
+    → HasPassed major (Is Its_place_and_magnitude A_number ∷ []) text list i names (at, (n, tt)) (i + 1) names
 passed_placed_number {text} {list} {i} names s t = record { read = read_placed_magnitude names t; whole = whole_texts A_number tt s t.taken; room = room_step names list i (Item t.token) t.taken.here }
 
-pub passed_name : {s : Terminal} {text : List ℕ} {list : List Laid} {i brackets : ℕ} {names after : List (List ℕ)} {name : Name} → IsTexts s → StandsIn (pieces_of text list) i brackets → IsNameAt s text list i names name after
-    → HasPassed (Is Its_name s ∷ []) text list i names (name, tt) (i + 1) after
+pub passed_name : {major : ℕ} {s : Terminal} {text : List ℕ} {list : List Laid} {i brackets : ℕ} {names after : List (List ℕ)} {name : Name} → IsTexts s → StandsIn (pieces_of text list) i brackets → IsNameAt s text list i names name after
+    → HasPassed major (Is Its_name s ∷ []) text list i names (name, tt) (i + 1) after
 passed_name {s} {text} {list} {i} {brackets} {names} {after} is stands t = record { read = read_name_at t; whole = whole_texts s is stands t.taken; room = room_name names after list i t.token t.taken.here t.grows }
 
-pub passed_placed : {s : Terminal} {text : List ℕ} {list : List Laid} {i brackets : ℕ} (names : List (List ℕ)) {l : Laid} → IsTexts s → StandsIn (pieces_of text list) i brackets → IsTaken s text list i l
-    → HasPassed (Is Its_place s ∷ []) text list i names (place text (start_of l), tt) (i + 1) names
+pub passed_placed : {major : ℕ} {s : Terminal} {text : List ℕ} {list : List Laid} {i brackets : ℕ} (names : List (List ℕ)) {l : Laid} → IsTexts s → StandsIn (pieces_of text list) i brackets → IsTaken s text list i l
+    → HasPassed major (Is Its_place s ∷ []) text list i names (place text (start_of l), tt) (i + 1) names
 passed_placed {s} {text} {list} {i} names {l} is stands t = record { read = read_placed names t; whole = whole_texts s is stands t; room = room_step names list i l t.here }
 
-pub passed_word : {s : Terminal} {text : List ℕ} {list : List Laid} {i brackets : ℕ} (names : List (List ℕ)) {l : Laid} → IsTexts s → StandsIn (pieces_of text list) i brackets → IsTaken s text list i l
-    → HasPassed (Is Nothing s ∷ []) text list i names tt (i + 1) names
+pub passed_word : {major : ℕ} {s : Terminal} {text : List ℕ} {list : List Laid} {i brackets : ℕ} (names : List (List ℕ)) {l : Laid} → IsTexts s → StandsIn (pieces_of text list) i brackets → IsTaken s text list i l
+    → HasPassed major (Is Nothing s ∷ []) text list i names tt (i + 1) names
 passed_word {s} {text} {list} {i} names {l} is stands t = record { read = read_piece t.here t.takes t.flat (a_piece t.takes no_symbol); whole = whole_texts s is stands t; room = room_step names list i l t.here }

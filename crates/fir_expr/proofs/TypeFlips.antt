@@ -54,51 +54,51 @@ module _ (text : List ℕ) (list : List Laid) (i : ℕ) (l : Laid) (h : slice_ge
 
 -- a field of what stands before its name and of the rest
 module _ (text : List ℕ) (list : List Laid) (i j brackets : ℕ) (s : StandsIn (pieces_of text list) i brackets) where
-  flip_passed : (names : List (List ℕ)) → StartsWith (The_word (codes "flip")) text list i → HasPassed (word "flip" ∷ []) text list i names tt (i + 1) names
+  flip_passed : {major : ℕ} (names : List (List ℕ)) → StartsWith (The_word (codes "flip")) text list i → HasPassed major (word "flip" ∷ []) text list i names tt (i + 1) names
   flip_passed names w = passed_word names tt s (word_taken (codes "flip") text list i w.part w w.here)
 
   pub field_stands : (b : Bool) → Flips b text list i j → StandsIn (pieces_of text list) j brackets
-  field_stands true f = rw f.2 (whole_stands (flip_passed [] f.1).whole s)
+  field_stands true f = rw f.2 (whole_stands (flip_passed {major = 3} [] f.1).whole s)
   field_stands false f = rw f.1 s
 
   pub field_room : (names : List (List ℕ)) (b : Bool) → Flips b text list i j → wanted names list j ≤ wanted names list i
-  field_room names true f = rw f.2 (flip_passed names f.1).room
+  field_room names true f = rw f.2 (flip_passed {major = 3} names f.1).room
   field_room names false f = rw f.1 (omega arith)
 
   pub field_onward : (b : Bool) → Flips b text list i j → i ≤ j
   field_onward true f = rw f.2 (omega arith)
   field_onward false f = rw f.1 (omega arith)
 
-  pub field_read : (b : Bool) {k : ℕ} {names after : List (List ℕ)} {called : Name} {typ : FirType} → Flips b text list i j
-      → HasPassed (field ∷ colon ∷ A Type_of ∷ []) text list j names (called, (typ, tt)) k after → HasPassed (A Field ∷ []) text list i names (record { flip = b; name = called; typ = typ }, tt) k after
+  pub field_read : {major : ℕ} (b : Bool) {k : ℕ} {names after : List (List ℕ)} {called : Name} {typ : FirType} → Flips b text list i j
+      → HasPassed major (field ∷ colon ∷ A Type_of ∷ []) text list j names (called, (typ, tt)) k after → HasPassed major (A Field ∷ []) text list i names (record { flip = b; name = called; typ = typ }, tt) k after
   field_read true {names} f h = passed_case flipped_field (record { into = f.0.into }) (passed_then (flip_passed names f.1) (rw f.2 at h))
   field_read false f h = passed_case plain_field (record { into = f.0.into }) (rw f.1 at h)
 
   pub field_fails : (b : Bool) {fault : ParseFault} → Flips b text list i j → IsRefused (field ∷ colon ∷ A Type_of ∷ []) text list j fault → IsRefused (A Field ∷ []) text list i fault
-  field_fails true f r = refused_case flipped_field (record { into = f.0.into }) (refused_behind (flip_passed [] f.1).read (rw f.2 at r))
+  field_fails true f r = refused_case flipped_field (record { into = f.0.into }) (refused_behind (flip_passed {major = 3} [] f.1).read (rw f.2 at r))
   field_fails false f r = refused_case plain_field (record { into = f.0.into }) (rw f.1 at r)
 
 -- a name, a colon and a type
 module _ {text : List ℕ} {list : List Laid} {i brackets : ℕ} (s : StandsIn (pieces_of text list) i brackets) {names after : List (List ℕ)} {called : Name} (t : IsNameAt A_field text list i names called after) where
-  called_passed : HasPassed (field ∷ []) text list i names (called, tt) (i + 1) after
+  called_passed : {major : ℕ} → HasPassed major (field ∷ []) text list i names (called, tt) (i + 1) after
   called_passed = passed_name tt s t
 
   pub called_no_colon : {fault : ParseFault} → IsNotTaken (The_mark 58) text list (i + 1) fault → IsRefused (field ∷ colon ∷ A Type_of ∷ []) text list i fault
-  called_no_colon r = refused_behind called_passed.read (refused_first (A Type_of ∷ []) (r.refused Nothing))
+  called_no_colon r = refused_behind (called_passed {major = 3}).read (refused_first (A Type_of ∷ []) (r.refused Nothing))
 
   module _ {l : Laid} (c : IsTaken (The_mark 58) text list (i + 1) l) where
-    called_colon : HasPassed (field ∷ colon ∷ []) text list i names (called, tt) (i + 1 + 1) after
+    called_colon : {major : ℕ} → HasPassed major (field ∷ colon ∷ []) text list i names (called, tt) (i + 1 + 1) after
     called_colon = passed_then called_passed (passed_mark 58 after (begins_texts A_field tt s t.taken).stands (λ at. refl) c)
 
     pub called_room : wanted after list (i + 1 + 1) ≤ wanted names list i
-    called_room = called_colon.room
+    called_room = (called_colon {major = 3}).room
 
     pub called_begins : BeginsType (pieces_of text list) (i + 1 + 1) brackets
     called_begins = begins_mark 58 (begins_texts A_field tt s t.taken) (λ at. refl) c
 
     pub called_no_type : {fault : ParseFault} → IsRefused (A Type_of ∷ []) text list (i + 1 + 1) fault → IsRefused (field ∷ colon ∷ A Type_of ∷ []) text list i fault
-    called_no_type r = refused_behind called_colon.read r
+    called_no_type r = refused_behind (called_colon {major = 3}).read r
 
-    pub called_read : {typ : FirType} {k : ℕ} {last : List (List ℕ)} → HasPassed (A Type_of ∷ []) text list (i + 1 + 1) after (typ, tt) k last
-        → HasPassed (field ∷ colon ∷ A Type_of ∷ []) text list i names (called, (typ, tt)) k last
+    pub called_read : {major : ℕ} {typ : FirType} {k : ℕ} {last : List (List ℕ)} → HasPassed major (A Type_of ∷ []) text list (i + 1 + 1) after (typ, tt) k last
+        → HasPassed major (field ∷ colon ∷ A Type_of ∷ []) text list i names (called, (typ, tt)) k last
     called_read h = passed_then called_colon h

@@ -76,8 +76,8 @@ into_bundle text list i l h u s c r = record {
 -- `UInt` and `SInt` with a width or without
 
 module _ {text : List ℕ} {list : List Laid} {i brackets : ℕ} {l : Laid} (s : StandsIn (pieces_of text list) i brackets) where
-  pub integer_read : (sort : Kind) (names : List (List ℕ)) {width : Option ℕ} {j : ℕ} → IsTaken (The_word (kind_name sort)) text list i l → HasPassed (A Width ∷ []) text list (i + 1) names (width, tt) j names
-      → HasPassed (A Base_type ∷ []) text list i names (record { place = place text (start_of l); shape = shape_of sort width }, tt) j names
+  pub integer_read : {major : ℕ} (sort : Kind) (names : List (List ℕ)) {width : Option ℕ} {j : ℕ} → IsTaken (The_word (kind_name sort)) text list i l → HasPassed major (A Width ∷ []) text list (i + 1) names (width, tt) j names
+      → HasPassed major (A Base_type ∷ []) text list i names (record { place = place text (start_of l); shape = shape_of sort width }, tt) j names
   integer_read sign.Unsigned names t w = passed_case an_unsigned (enters_by_piece (pieces_of text list) i an_unsigned (piece_of text l) (piece_at text list i l t.here) (λ ps. unsigned_chosen (piece_of text l) ps t.takes))
       (passed_then (passed_placed names tt s t) w)
   integer_read sign.Signed names t w = passed_case a_signed (enters_by_piece (pieces_of text list) i a_signed (piece_of text l) (piece_at text list i l t.here) (λ ps. signed_chosen (piece_of text l) ps t.takes))
@@ -85,12 +85,12 @@ module _ {text : List ℕ} {list : List Laid} {i brackets : ℕ} {l : Laid} (s :
 
   pub integer_refused : (sort : Kind) {fault : ParseFault} → IsTaken (The_word (kind_name sort)) text list i l → IsRefused (A Width ∷ []) text list (i + 1) fault → IsRefused (A Base_type ∷ []) text list i fault
   integer_refused sign.Unsigned t r = refused_case an_unsigned (enters_by_piece (pieces_of text list) i an_unsigned (piece_of text l) (piece_at text list i l t.here) (λ ps. unsigned_chosen (piece_of text l) ps t.takes))
-      (refused_behind (passed_placed [] tt s t).read r)
+      (refused_behind (passed_placed {major = 3} [] tt s t).read r)
   integer_refused sign.Signed t r = refused_case a_signed (enters_by_piece (pieces_of text list) i a_signed (piece_of text l) (piece_at text list i l t.here) (λ ps. signed_chosen (piece_of text l) ps t.takes))
-      (refused_behind (passed_placed [] tt s t).read r)
+      (refused_behind (passed_placed {major = 3} [] tt s t).read r)
 
-  pub bare_read : (sort : Shape) (names : List (List ℕ)) → IsBareAt sort text list i → slice_get list i ≡ Some l
-      → HasPassed (A Base_type ∷ []) text list i names (record { place = place text (start_of l); shape = sort }, tt) (i + 1) names
+  pub bare_read : {major : ℕ} (sort : Shape) (names : List (List ℕ)) → IsBareAt sort text list i → slice_get list i ≡ Some l
+      → HasPassed major (A Base_type ∷ []) text list i names (record { place = place text (start_of l); shape = sort }, tt) (i + 1) names
   bare_read shape.Clock names w h =
       let t = word_taken (codes "Clock") text list i l w h in
       passed_case a_clock (enters_by_piece (pieces_of text list) i a_clock (piece_of text l) (piece_at text list i l h) (λ ps. clock_chosen (piece_of text l) ps t.takes)) (passed_placed names tt s t)

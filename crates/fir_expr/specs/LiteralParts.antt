@@ -8,4 +8,4 @@ use Rattle.fir_expr.specs.Parts.{HasPassed}
 pub record AddsNumbers (text : List ℕ) (list : List Laid) (i count : ℕ) (old new : List ℕ) (j : ℕ) : Type 0 where
   pub numbers : List ℕ
   pub added : new ≡ old ++ numbers
-  pub read : (names : List (List ℕ)) → HasPassed (A (Numbers count) ∷ []) text list i names (numbers, tt) j names
+  pub read : (major : ℕ) (names : List (List ℕ)) → HasPassed major (A (Numbers count) ∷ []) text list i names (numbers, tt) j names

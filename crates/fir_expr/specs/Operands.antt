@@ -37,26 +37,26 @@ pub record HasNoSuffix (text : List ℕ) (list : List Laid) (i : ℕ) : Type 0 w
   pub no_bracket : ¬ (Takes (The_mark 91) (piece_of text part))
 
 -- so many expressions were read, and stand behind those read before
-pub record HasOperands (count : ℕ) (text : List ℕ) (list : List Laid) (i : ℕ) (names : List (List ℕ)) (before now : List Expr) (j : ℕ) (after : List (List ℕ)) : Type 0 where
+pub record HasOperands (major : ℕ) (count : ℕ) (text : List ℕ) (list : List Laid) (i : ℕ) (names : List (List ℕ)) (before now : List Expr) (j : ℕ) (after : List (List ℕ)) : Type 0 where
   pub operands : List Expr
   pub added : now ≡ before ++ operands
-  pub passed : HasPassed (A (Expressions count) ∷ []) text list i names (operands, tt) j after
+  pub passed : HasPassed major (A (Expressions count) ∷ []) text list i names (operands, tt) j after
 
 -- all suffixes were read, and stand behind those read before
-pub record HasSuffixes (text : List ℕ) (list : List Laid) (i : ℕ) (names : List (List ℕ)) (before now : List Suffix) (j : ℕ) (after : List (List ℕ)) : Type 0 where
+pub record HasSuffixes (major : ℕ) (text : List ℕ) (list : List Laid) (i : ℕ) (names : List (List ℕ)) (before now : List Suffix) (j : ℕ) (after : List (List ℕ)) : Type 0 where
   pub suffixes : List Suffix
   pub added : now ≡ before ++ suffixes
-  pub passed : HasPassed (A Suffixes ∷ []) text list i names (suffixes, tt) j after
+  pub passed : HasPassed major (A Suffixes ∷ []) text list i names (suffixes, tt) j after
 
 -- one suffix was read, and those behind it may follow
-pub record HasStepped (text : List ℕ) (list : List Laid) (i : ℕ) (names : List (List ℕ)) (suffix : Suffix) (j : ℕ) (after : List (List ℕ)) : Type 0 where
-  pub goes_on : {xs : List Suffix} {k : ℕ} {last : List (List ℕ)} → HasPassed (A Suffixes ∷ []) text list j after (xs, tt) k last → HasPassed (A Suffixes ∷ []) text list i names (suffix ∷ xs, tt) k last
+pub record HasStepped (major : ℕ) (text : List ℕ) (list : List Laid) (i : ℕ) (names : List (List ℕ)) (suffix : Suffix) (j : ℕ) (after : List (List ℕ)) : Type 0 where
+  pub goes_on : {xs : List Suffix} {k : ℕ} {last : List (List ℕ)} → HasPassed major (A Suffixes ∷ []) text list j after (xs, tt) k last → HasPassed major (A Suffixes ∷ []) text list i names (suffix ∷ xs, tt) k last
   pub refuses : {fault : ParseFault} → IsRefused (A Suffixes ∷ []) text list j fault → IsRefused (A Suffixes ∷ []) text list i fault
   pub stands : {brackets : ℕ} → StandsIn (pieces_of text list) i brackets → StandsIn (pieces_of text list) j brackets
   pub counted : last_suffixes (levels (take j (pieces_of text list))).suffixes ≡ last_suffixes (levels (take i (pieces_of text list))).suffixes + 1
   pub room : wanted after list j ≤ wanted names list i
 
 -- what a reader of one suffix answers, where so many are read before it: there are fewer than there may be
-abbrev pub AnswersSuffix : List ℕ → List Laid → ℕ → List (List ℕ) → ℕ → Result (Suffix × ℕ) ParseFault → List (List ℕ) → Type 0
-AnswersSuffix text list i names count (Ok x) after = HasStepped text list i names x.0 x.1 after × (count < most)
-AnswersSuffix text list i names count (Err fault) after = IsRefused (A Suffixes ∷ []) text list i fault
+abbrev pub AnswersSuffix : ℕ → List ℕ → List Laid → ℕ → List (List ℕ) → ℕ → Result (Suffix × ℕ) ParseFault → List (List ℕ) → Type 0
+AnswersSuffix major text list i names count (Ok x) after = HasStepped major text list i names x.0 x.1 after × (count < most)
+AnswersSuffix major text list i names count (Err fault) after = IsRefused (A Suffixes ∷ []) text list i fault

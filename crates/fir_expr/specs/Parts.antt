@@ -14,8 +14,8 @@ use Rattle.fir_expr.specs.declared.literals.Head.{Head}
 use Rattle.fir_expr.specs.declared.literals.Head.TheVariants as head
 
 -- The symbols were read; their brackets have closed, and each name that is new has taken a token.
-pub record HasPassed (symbols : List Symbol) (text : List ℕ) (list : List Laid) (i : ℕ) (names : List (List ℕ)) (vs : Values symbols) (j : ℕ) (after : List (List ℕ)) : Type 0 where
-  pub read : HasRead symbols text list i names vs j after
+pub record HasPassed (major : ℕ) (symbols : List Symbol) (text : List ℕ) (list : List Laid) (i : ℕ) (names : List (List ℕ)) (vs : Values symbols) (j : ℕ) (after : List (List ℕ)) : Type 0 where
+  pub read : HasRead major symbols text list i names vs j after
   pub whole : IsWhole (pieces_of text list) i j
   pub room : wanted after list j ≤ wanted names list i
 
@@ -26,9 +26,9 @@ pub record MayBegin (text : List ℕ) (list : List Laid) (names : List (List ℕ
   pub stands : StandsIn (pieces_of text list) at brackets
 
 -- what a reader of one rule answers, with the place behind it
-abbrev pub Answers : (r : Rule) → List ℕ → List Laid → ℕ → List (List ℕ) → Result (Tree r × ℕ) ParseFault → List (List ℕ) → Type 0
-Answers r text list i names (Ok x) after = HasPassed (A r ∷ []) text list i names (x.0, tt) x.1 after
-Answers r text list i names (Err fault) after = IsRefused (A r ∷ []) text list i fault
+abbrev pub Answers : ℕ → (r : Rule) → List ℕ → List Laid → ℕ → List (List ℕ) → Result (Tree r × ℕ) ParseFault → List (List ℕ) → Type 0
+Answers major r text list i names (Ok x) after = HasPassed major (A r ∷ []) text list i names (x.0, tt) x.1 after
+Answers major r text list i names (Err fault) after = IsRefused (A r ∷ []) text list i fault
 
 -- at the place i the rule goes on by this case, whatever stands behind it
 pub record GoesInto {r : Rule} {body : List Symbol} (case : IsCase r body) (text : List ℕ) (list : List Laid) (i : ℕ) : Type 0 where

@@ -17,16 +17,16 @@ use Rattle.fir_expr.specs.Parts.{GoesInto, HasPassed}
 -- lengths were read behind an element type, and the type has the vectors of it
 pub record HasLengths (element : FirType) (text : List ℕ) (list : List Laid) (i : ℕ) (typ : FirType) (j : ℕ) : Type 0 where
   pub lengths : List ℕ
-  pub passed : (names : List (List ℕ)) → HasPassed (A Lengths ∷ []) text list i names (lengths, tt) j names
+  pub passed : (major : ℕ) (names : List (List ℕ)) → HasPassed major (A Lengths ∷ []) text list i names (lengths, tt) j names
   pub is : typ ≡ vectors element lengths
 
 -- fields were read with the `}` behind them, which closes a bracket that was open before them
-pub record HasFields (text : List ℕ) (list : List Laid) (i : ℕ) (names : List (List ℕ)) (fields : List BundleField) (j : ℕ) (after : List (List ℕ)) : Type 0 where
+pub record HasFields (major : ℕ) (text : List ℕ) (list : List Laid) (i : ℕ) (names : List (List ℕ)) (fields : List BundleField) (j : ℕ) (after : List (List ℕ)) : Type 0 where
   pub last : ℕ
   pub behind : j ≡ last + 1
   pub part : Laid
   pub close : IsTaken (The_mark 125) text list last part
-  pub read : HasRead (A Fields ∷ []) text list i names (fields, tt) j after
+  pub read : HasRead major (A Fields ∷ []) text list i names (fields, tt) j after
   pub whole : IsWhole (pieces_of text list) i last
   pub room : wanted after list j ≤ wanted names list i
 

@@ -18,7 +18,7 @@ use bit_words::List;
 use fir_layout::Laid;
 use fir_lexer::TokenKind;
 use fir_tree::{Expr, Form, Names, ParseFault, Suffix};
-use prim_ops::{Prim, arity};
+use prim_ops::{Prim, arity, in_version};
 use token_reader::{
     NameSort, is_mark, open_call, part_at, place_of_part, take_mark, take_name, take_number,
     take_suffix,
@@ -28,7 +28,7 @@ use token_reader::{
 #[cycle(expr)]
 pub fn expr(from: &Source, names: &mut Names, at: usize, brackets: u32) -> Read<Expr>
     requires { MayBegin from.now.text.now from.now.laid.now names.old at brackets }
-    ensures { Answers Expression from.now.text.now from.now.laid.now at names.old result names.new }
+    ensures { Answers from.now.major Expression from.now.text.now from.now.laid.now at names.old result names.new }
 {
     match head_at(from.text, from.laid, at)? {
         Head::Component => {
@@ -47,7 +47,7 @@ pub fn expr(from: &Source, names: &mut Names, at: usize, brackets: u32) -> Read<
 fn mux(from: &Source, names: &mut Names, at: usize, brackets: u32) -> Read<Expr>
     requires start { MayBegin from.now.text.now from.now.laid.now names.old at brackets }
     requires head { StartsWith (The_call (codes "mux")) from.now.text.now from.now.laid.now at }
-    ensures { Answers Expression from.now.text.now from.now.laid.now at names.old result names.new }
+    ensures { Answers from.now.major Expression from.now.text.now from.now.laid.now at names.old result names.new }
 {
     let call = open_call(from.text, from.laid, at, brackets)?;
     let mut read = List::new(from.alloc);
@@ -70,7 +70,7 @@ fn operation(from: &Source, names: &mut Names, at: usize, brackets: u32, prim: P
     requires start { MayBegin from.now.text.now from.now.laid.now names.old at brackets }
     requires written { IsWritten prim }
     requires head { StartsWith (The_call (name_of prim)) from.now.text.now from.now.laid.now at }
-    ensures { Answers Expression from.now.text.now from.now.laid.now at names.old result names.new }
+    ensures { Answers from.now.major Expression from.now.text.now from.now.laid.now at names.old result names.new }
 {
     let call = open_call(from.text, from.laid, at, brackets)?;
     let counts = arity(prim);
@@ -83,7 +83,7 @@ fn operation(from: &Source, names: &mut Names, at: usize, brackets: u32, prim: P
     Ok((
         Expr {
             place,
-            form: Form::Prim(prim, read, parameters),
+            form: Form::Prim(in_version(from.major, prim), read, parameters),
         },
         close + 1,
     ))
@@ -101,7 +101,7 @@ fn operands(
 ) -> Result<usize, ParseFault>
     requires start { MayBegin from.now.text.now from.now.laid.now names.old at brackets }
     requires within { at ≤ length from.now.laid.now }
-    ensures ok { IfOk result (λ end. HasOperands count from.now.text.now from.now.laid.now at names.old read.old read.new end names.new) }
+    ensures ok { IfOk result (λ end. HasOperands from.now.major count from.now.text.now from.now.laid.now at names.old read.old read.new end names.new) }
     ensures err { IfErr result (λ fault. IsRefused (A (Expressions count) ∷ []) from.now.text.now from.now.laid.now at fault) }
 {
     if count == 0 {
@@ -117,7 +117,7 @@ fn operands(
 #[cycle(expr)]
 pub fn reference(from: &Source, names: &mut Names, at: usize, brackets: u32) -> Read<Expr>
     requires { MayBegin from.now.text.now from.now.laid.now names.old at brackets }
-    ensures { Answers Reference from.now.text.now from.now.laid.now at names.old result names.new }
+    ensures { Answers from.now.major Reference from.now.text.now from.now.laid.now at names.old result names.new }
 {
     let name = take_name(from.text, from.laid, names, at, NameSort::Plain)?;
     let mut read = List::new(from.alloc);
@@ -143,7 +143,7 @@ fn suffixes(
 ) -> Result<usize, ParseFault>
     requires start { MayBegin from.now.text.now from.now.laid.now names.old at brackets }
     requires counted { last_suffixes (levels (take at (pieces_of from.now.text.now from.now.laid.now))).suffixes ≡ 0 }
-    ensures ok { IfOk result (λ end. HasSuffixes from.now.text.now from.now.laid.now at names.old read.old read.new end names.new) }
+    ensures ok { IfOk result (λ end. HasSuffixes from.now.major from.now.text.now from.now.laid.now at names.old read.old read.new end names.new) }
     ensures err { IfErr result (λ fault. IsRefused (A Suffixes ∷ []) from.now.text.now from.now.laid.now at fault) }
 {
     let mut here = at;
@@ -169,7 +169,7 @@ fn suffix(
 ) -> Result<Option<(Suffix, usize)>, ParseFault>
     requires start { MayBegin from.now.text.now from.now.laid.now names.old at brackets }
     requires counted { last_suffixes (levels (take at (pieces_of from.now.text.now from.now.laid.now))).suffixes ≡ count }
-    ensures some { IfOk result (λ o. IfSome o (λ x. HasStepped from.now.text.now from.now.laid.now at names.old x.0 x.1 names.new)) }
+    ensures some { IfOk result (λ o. IfSome o (λ x. HasStepped from.now.major from.now.text.now from.now.laid.now at names.old x.0 x.1 names.new)) }
     ensures few { IfOk result (λ o. IfSome o (λ _. count < most)) }
     ensures none { IfOk result (λ o. IfNone o (HasNoSuffix from.now.text.now from.now.laid.now at × (names.new ≡ names.old))) }
     ensures err { IfErr result (λ fault. IsRefused (A Suffixes ∷ []) from.now.text.now from.now.laid.now at fault) }
@@ -191,7 +191,7 @@ fn field(from: &Source, names: &mut Names, at: usize, brackets: u32, count: u32)
     requires start { MayBegin from.now.text.now from.now.laid.now names.old at brackets }
     requires counted { last_suffixes (levels (take at (pieces_of from.now.text.now from.now.laid.now))).suffixes ≡ count }
     requires begins { StartsWith (The_mark 46) from.now.text.now from.now.laid.now at }
-    ensures { AnswersSuffix from.now.text.now from.now.laid.now at names.old count result names.new }
+    ensures { AnswersSuffix from.now.major from.now.text.now from.now.laid.now at names.old count result names.new }
 {
     take_suffix(from.text, from.laid, at, b'.', brackets, count)?;
     let behind = at + 1;
@@ -206,7 +206,7 @@ fn index(from: &Source, names: &mut Names, at: usize, brackets: u32, count: u32)
     requires counted { last_suffixes (levels (take at (pieces_of from.now.text.now from.now.laid.now))).suffixes ≡ count }
     requires begins { StartsWith (The_mark 91) from.now.text.now from.now.laid.now at }
     requires within { at < length from.now.laid.now }
-    ensures { AnswersSuffix from.now.text.now from.now.laid.now at names.old count result names.new }
+    ensures { AnswersSuffix from.now.major from.now.text.now from.now.laid.now at names.old count result names.new }
 {
     let inside = at + 1;
     let first = part_at(from.laid, inside)?;
@@ -224,7 +224,7 @@ fn element(from: &Source, names: &Names, at: usize, brackets: u32, count: u32) -
     requires counted { last_suffixes (levels (take at (pieces_of from.now.text.now from.now.laid.now))).suffixes ≡ count }
     requires number { HasDigits from.now.text.now from.now.laid.now (at + 1) }
     requires begins { StartsWith (The_mark 91) from.now.text.now from.now.laid.now at }
-    ensures { AnswersSuffix from.now.text.now from.now.laid.now at names.now count result names.now }
+    ensures { AnswersSuffix from.now.major from.now.text.now from.now.laid.now at names.now count result names.now }
 {
     let mark = take_suffix(from.text, from.laid, at, b'[', brackets, count)?;
     let inside = at + 1;
@@ -244,7 +244,7 @@ fn dynamic(from: &Source, names: &mut Names, at: usize, brackets: u32, count: u3
     requires counted { last_suffixes (levels (take at (pieces_of from.now.text.now from.now.laid.now))).suffixes ≡ count }
     requires begins { StartsWith (The_mark 91) from.now.text.now from.now.laid.now at }
     requires number { HasNoDigits from.now.text.now from.now.laid.now (at + 1) }
-    ensures { AnswersSuffix from.now.text.now from.now.laid.now at names.old count result names.new }
+    ensures { AnswersSuffix from.now.major from.now.text.now from.now.laid.now at names.old count result names.new }
 {
     let mark = take_suffix(from.text, from.laid, at, b'[', brackets, count)?;
     let inside = at + 1;

@@ -23,7 +23,7 @@ use token_reader::{Text, bytes, is_mark, part_at, refusal_at, take_number};
 pub(crate) fn integer(text: &Text, laid: &[Laid], at: usize) -> Read<Number>
     requires source { IsSource text.now laid.now }
     requires stands { (brackets : ℕ) × StandsIn (pieces_of text.now laid.now) at brackets }
-    ensures { (names : List (List ℕ)) → Answers Integer text.now laid.now at names result names }
+    ensures { (major : ℕ) (names : List (List ℕ)) → Answers major Integer text.now laid.now at names result names }
 {
     let part = part_at(laid, at)?;
     if is_mark(part, b'-') {

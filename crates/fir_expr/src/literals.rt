@@ -115,7 +115,7 @@ fn literal_kind(word: &[u8]) -> Option<Kind>
 pub fn numbers(alloc: Global, text: &Text, laid: &[Laid], at: usize, count: u32) -> Read<List<u128>>
     requires source { IsSource text.now laid.now }
     requires stands { (brackets : ℕ) × StandsIn (pieces_of text.now laid.now) at brackets }
-    ensures { (names : List (List ℕ)) → Answers (Numbers count) text.now laid.now at names result names }
+    ensures { (major : ℕ) (names : List (List ℕ)) → Answers major (Numbers count) text.now laid.now at names result names }
 {
     let mut list = List::new(alloc);
     let end = push_numbers(text, laid, &mut list, at, count)?;
@@ -150,7 +150,7 @@ pub fn literal(text: &Text, laid: &[Laid], at: usize, kind: Kind, brackets: u32)
     requires source { IsSource text.now laid.now }
     requires stands { StandsIn (pieces_of text.now laid.now) at brackets }
     requires head { StartsWith (The_call (kind_name kind)) text.now laid.now at }
-    ensures { (names : List (List ℕ)) → Answers Expression text.now laid.now at names result names }
+    ensures { (major : ℕ) (names : List (List ℕ)) → Answers major Expression text.now laid.now at names result names }
 {
     let call = open_call(text, laid, at, brackets)?;
     let (number, close) = integer(text, laid, at + 1)?;
@@ -168,7 +168,7 @@ pub fn wide_literal(text: &Text, laid: &[Laid], at: usize, kind: Kind, brackets:
     requires stands { StandsIn (pieces_of text.now laid.now) at brackets }
     requires head { StartsWith (The_word (kind_name kind)) text.now laid.now at }
     requires next { StartsWith (The_mark 60) text.now laid.now (at + 1) }
-    ensures { (names : List (List ℕ)) → Answers Expression text.now laid.now at names result names }
+    ensures { (major : ℕ) (names : List (List ℕ)) → Answers major Expression text.now laid.now at names result names }
 {
     let word = part_at(laid, at)?;
     let less = at + 1;

@@ -1,6 +1,6 @@
 //! The reader and its calls.
 
-ghost use Rattle.std.specs.Prelude.{◌≡◌, ◌≤◌, ◌<◌, ◌+◌, ◌-◌, ◌^◌, [], length, IfOk, IfErr, IfSome, IfNone, OnOk, slice_get, Some};
+ghost use Rattle.std.specs.Prelude.{◌≡◌, ◌⊎◌, ◌≤◌, ◌<◌, ◌+◌, ◌-◌, ◌^◌, [], length, IfOk, IfErr, IfSome, IfNone, OnOk, slice_get, Some};
 ghost use Rattle.fir_layout.specs.Pieces.{piece_of, pieces_of};
 ghost use Rattle.place_text.specs.Places.{place};
 ghost use Rattle.fir_layout.specs.declared.laid.Laid.{Laid as TheLaid};
@@ -32,8 +32,10 @@ pub struct Reader<'a> {
     pub at: usize,
     /// The texts of the names read so far.
     pub names: Names,
-    /// How many brackets are open at `at`: each `(`, `[`, `{` and word with its `(` opens one.
+    /// How many brackets are open at `at`: each `(`, `[`, `{` and word with its `(` opens one, but for `printf(` and `stop(`.
     pub brackets: u32,
+    /// The first number of the text's version, 3 or 4.
+    pub major: u8,
     /// Where the lines of the text begin, or nothing.
     lines: List<u32>,
     pub ghost lines_are: { AreLines bytes.now lines },
@@ -47,6 +49,7 @@ impl<'a> Reader<'a> {
         ensures at { result.at ≡ 0 }
         ensures names { result.names ≡ [] }
         ensures brackets { result.brackets ≡ 0 }
+        ensures major { result.major ≡ 3 }
     {
         Reader {
             bytes,
@@ -54,8 +57,22 @@ impl<'a> Reader<'a> {
             at: 0,
             names: Names::new(alloc),
             brackets: 0,
+            major: 3,
             lines: List::new(alloc),
         }
+    }
+
+    /// Sets the first number of the text's version. Takes no memory.
+    pub fn set_major(&mut self, major: u8)
+        requires { (major ≡ 3) ⊎ (major ≡ 4) }
+        ensures major { self.new.major ≡ major }
+        ensures bytes { self.new.bytes.now ≡ self.old.bytes.now }
+        ensures laid { self.new.laid.now ≡ self.old.laid.now }
+        ensures at { self.new.at ≡ self.old.at }
+        ensures names { self.new.names ≡ self.old.names }
+        ensures brackets { self.new.brackets ≡ self.old.brackets }
+    {
+        self.major = major;
     }
 
     /// Makes a table of the lines, by which `place_of` and the readers find a place in time that grows with the logarithm of
@@ -68,6 +85,7 @@ impl<'a> Reader<'a> {
         ensures at { self.new.at ≡ self.old.at }
         ensures names { self.new.names ≡ self.old.names }
         ensures brackets { self.new.brackets ≡ self.old.brackets }
+        ensures major { self.new.major ≡ self.old.major }
     {
         self.lines = lines_of(alloc, self.bytes)?;
         Ok(())
@@ -113,6 +131,7 @@ impl<'a> Reader<'a> {
         ensures bytes { self.new.bytes.now ≡ self.old.bytes.now }
         ensures laid { self.new.laid.now ≡ self.old.laid.now }
         ensures brackets { self.new.brackets ≡ self.old.brackets }
+        ensures major { self.new.major ≡ self.old.major }
     {
         let text = Text::new(self.bytes, self.lines.as_slice());
         let name = take_name(&text, self.laid, &mut self.names, self.at, NameSort::Plain)?;
@@ -134,11 +153,12 @@ pub fn read_type(alloc: Global, reader: &mut Reader) -> Result<FirType, ParseFau
     requires within { reader.old.at ≤ length reader.old.laid.now }
     requires room { wanted reader.old.names reader.old.laid.now reader.old.at < 2 ^ 32 - 1 }
     requires begins { BeginsType (pieces_of reader.old.bytes.now reader.old.laid.now) reader.old.at reader.old.brackets }
-    ensures read { ReadsRule Type_of reader.old.bytes.now reader.old.laid.now reader.old.at reader.old.names result reader.new.at reader.new.names }
-    ensures longest { ReadsLongest Type_of reader.old.bytes.now reader.old.laid.now reader.old.at reader.old.names result reader.new.at reader.new.names }
+    ensures read { ReadsRule reader.old.major Type_of reader.old.bytes.now reader.old.laid.now reader.old.at reader.old.names result reader.new.at reader.new.names }
+    ensures longest { ReadsLongest reader.old.major Type_of reader.old.bytes.now reader.old.laid.now reader.old.at reader.old.names result reader.new.at reader.new.names }
     ensures bytes { reader.new.bytes.now ≡ reader.old.bytes.now }
     ensures laid { reader.new.laid.now ≡ reader.old.laid.now }
     ensures brackets { reader.new.brackets ≡ reader.old.brackets }
+    ensures major { reader.new.major ≡ reader.old.major }
     ensures whole { IfOk result (λ _. IsWhole (pieces_of reader.old.bytes.now reader.old.laid.now) reader.old.at reader.new.at) }
     ensures room { IfOk result (λ _. wanted reader.new.names reader.old.laid.now reader.new.at ≤ wanted reader.old.names reader.old.laid.now reader.old.at) }
 {
@@ -147,6 +167,7 @@ pub fn read_type(alloc: Global, reader: &mut Reader) -> Result<FirType, ParseFau
         alloc,
         text: &text,
         laid: reader.laid,
+        major: reader.major,
     };
     let (read, end) = typ(&from, &mut reader.names, reader.at, reader.brackets)?;
     reader.at = end;
@@ -160,11 +181,12 @@ pub fn read_expr(alloc: Global, reader: &mut Reader) -> Result<Expr, ParseFault>
     requires within { reader.old.at ≤ length reader.old.laid.now }
     requires room { wanted reader.old.names reader.old.laid.now reader.old.at < 2 ^ 32 - 1 }
     requires stands { StandsIn (pieces_of reader.old.bytes.now reader.old.laid.now) reader.old.at reader.old.brackets }
-    ensures read { ReadsRule Expression reader.old.bytes.now reader.old.laid.now reader.old.at reader.old.names result reader.new.at reader.new.names }
-    ensures longest { ReadsLongest Expression reader.old.bytes.now reader.old.laid.now reader.old.at reader.old.names result reader.new.at reader.new.names }
+    ensures read { ReadsRule reader.old.major Expression reader.old.bytes.now reader.old.laid.now reader.old.at reader.old.names result reader.new.at reader.new.names }
+    ensures longest { ReadsLongest reader.old.major Expression reader.old.bytes.now reader.old.laid.now reader.old.at reader.old.names result reader.new.at reader.new.names }
     ensures bytes { reader.new.bytes.now ≡ reader.old.bytes.now }
     ensures laid { reader.new.laid.now ≡ reader.old.laid.now }
     ensures brackets { reader.new.brackets ≡ reader.old.brackets }
+    ensures major { reader.new.major ≡ reader.old.major }
     ensures whole { IfOk result (λ _. IsWhole (pieces_of reader.old.bytes.now reader.old.laid.now) reader.old.at reader.new.at) }
     ensures room { IfOk result (λ _. wanted reader.new.names reader.old.laid.now reader.new.at ≤ wanted reader.old.names reader.old.laid.now reader.old.at) }
 {
@@ -173,6 +195,7 @@ pub fn read_expr(alloc: Global, reader: &mut Reader) -> Result<Expr, ParseFault>
         alloc,
         text: &text,
         laid: reader.laid,
+        major: reader.major,
     };
     let (read, end) = expr(&from, &mut reader.names, reader.at, reader.brackets)?;
     reader.at = end;
@@ -187,11 +210,12 @@ pub fn read_reference(alloc: Global, reader: &mut Reader) -> Result<Expr, ParseF
     requires within { reader.old.at ≤ length reader.old.laid.now }
     requires room { wanted reader.old.names reader.old.laid.now reader.old.at < 2 ^ 32 - 1 }
     requires stands { StandsIn (pieces_of reader.old.bytes.now reader.old.laid.now) reader.old.at reader.old.brackets }
-    ensures read { ReadsRule Reference reader.old.bytes.now reader.old.laid.now reader.old.at reader.old.names result reader.new.at reader.new.names }
-    ensures longest { ReadsLongest Reference reader.old.bytes.now reader.old.laid.now reader.old.at reader.old.names result reader.new.at reader.new.names }
+    ensures read { ReadsRule reader.old.major Reference reader.old.bytes.now reader.old.laid.now reader.old.at reader.old.names result reader.new.at reader.new.names }
+    ensures longest { ReadsLongest reader.old.major Reference reader.old.bytes.now reader.old.laid.now reader.old.at reader.old.names result reader.new.at reader.new.names }
     ensures bytes { reader.new.bytes.now ≡ reader.old.bytes.now }
     ensures laid { reader.new.laid.now ≡ reader.old.laid.now }
     ensures brackets { reader.new.brackets ≡ reader.old.brackets }
+    ensures major { reader.new.major ≡ reader.old.major }
     ensures whole { IfOk result (λ _. IsWhole (pieces_of reader.old.bytes.now reader.old.laid.now) reader.old.at reader.new.at) }
     ensures room { IfOk result (λ _. wanted reader.new.names reader.old.laid.now reader.new.at ≤ wanted reader.old.names reader.old.laid.now reader.old.at) }
 {
@@ -200,6 +224,7 @@ pub fn read_reference(alloc: Global, reader: &mut Reader) -> Result<Expr, ParseF
         alloc,
         text: &text,
         laid: reader.laid,
+        major: reader.major,
     };
     let (read, end) = reference(&from, &mut reader.names, reader.at, reader.brackets)?;
     reader.at = end;

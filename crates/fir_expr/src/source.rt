@@ -13,4 +13,6 @@ pub struct Source<'a> {
     pub text: &'a Text<'a>,
     /// The laid list of the text.
     pub laid: &'a [Laid],
+    /// The first number of the text's version.
+    pub major: u8,
 }

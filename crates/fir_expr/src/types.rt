@@ -25,7 +25,7 @@ use token_reader::{
 fn width(text: &Text, laid: &[Laid], at: usize) -> Read<Option<u128>>
     requires source { IsSource text.now laid.now }
     requires begins { (brackets : ℕ) × BeginsType (pieces_of text.now laid.now) at brackets }
-    ensures read { (names : List (List ℕ)) → Answers Width text.now laid.now at names result names }
+    ensures read { (major : ℕ) (names : List (List ℕ)) → Answers major Width text.now laid.now at names result names }
     ensures begins { IfOk result (λ x. (brackets : ℕ) → BeginsType (pieces_of text.now laid.now) at brackets → BeginsType (pieces_of text.now laid.now) x.1 brackets) }
 {
     let part = part_at(laid, at)?;
@@ -44,7 +44,7 @@ fn integer_type(text: &Text, laid: &[Laid], at: usize, kind: Kind) -> Read<FirTy
     requires source { IsSource text.now laid.now }
     requires begins { (brackets : ℕ) × BeginsType (pieces_of text.now laid.now) at brackets }
     requires word { StartsWith (The_word (kind_name kind)) text.now laid.now at }
-    ensures read { (names : List (List ℕ)) → Answers Base_type text.now laid.now at names result names }
+    ensures read { (major : ℕ) (names : List (List ℕ)) → Answers major Base_type text.now laid.now at names result names }
     ensures begins { IfOk result (λ x. (brackets : ℕ) → BeginsType (pieces_of text.now laid.now) at brackets → BeginsType (pieces_of text.now laid.now) x.1 brackets) }
 {
     let part = part_at(laid, at)?;
@@ -69,7 +69,7 @@ fn bare_type(text: &Text, laid: &[Laid], at: usize, shape: Shape) -> Read<FirTyp
     requires source { IsSource text.now laid.now }
     requires begins { (brackets : ℕ) × BeginsType (pieces_of text.now laid.now) at brackets }
     requires word { IsBareAt shape text.now laid.now at }
-    ensures read { (names : List (List ℕ)) → Answers Base_type text.now laid.now at names result names }
+    ensures read { (major : ℕ) (names : List (List ℕ)) → Answers major Base_type text.now laid.now at names result names }
     ensures begins { IfOk result (λ x. (brackets : ℕ) → BeginsType (pieces_of text.now laid.now) at brackets → BeginsType (pieces_of text.now laid.now) x.1 brackets) }
 {
     let part = part_at(laid, at)?;
@@ -82,7 +82,7 @@ fn length(text: &Text, laid: &[Laid], at: usize, brackets: u32, suffixes: u32) -
     requires source { IsSource text.now laid.now }
     requires stands { StandsIn (pieces_of text.now laid.now) at brackets }
     requires counted { last_suffixes (levels (take at (pieces_of text.now laid.now))).suffixes ≡ suffixes }
-    ensures ok { IfOk result (λ x. (names : List (List ℕ)) → HasPassed (mark 91 ∷ number ∷ mark 93 ∷ []) text.now laid.now at names (x.0, tt) x.1 names) }
+    ensures ok { IfOk result (λ x. (major : ℕ) (names : List (List ℕ)) → HasPassed major (mark 91 ∷ number ∷ mark 93 ∷ []) text.now laid.now at names (x.0, tt) x.1 names) }
     ensures counted { IfOk result (λ x. last_suffixes (levels (take x.1 (pieces_of text.now laid.now))).suffixes ≡ suffixes + 1) }
     ensures few { IfOk result (λ _. suffixes < most) }
     ensures err { IfErr result (λ fault. IsRefused (mark 91 ∷ number ∷ mark 93 ∷ []) text.now laid.now at fault) }
@@ -140,7 +140,7 @@ pub fn typ(from: &Source, names: &mut Names, at: usize, brackets: u32) -> Read<F
     requires source { IsSource from.now.text.now from.now.laid.now }
     requires room { wanted names.old from.now.laid.now at < 2 ^ 32 - 1 }
     requires begins { BeginsType (pieces_of from.now.text.now from.now.laid.now) at brackets }
-    ensures { Answers Type_of from.now.text.now from.now.laid.now at names.old result names.new }
+    ensures { Answers from.now.major Type_of from.now.text.now from.now.laid.now at names.old result names.new }
 {
     let (base, behind) = base_type(from, names, at, brackets)?;
     let (read, end) = lengths(from, base, behind, brackets, 0)?;
@@ -153,7 +153,7 @@ fn base_type(from: &Source, names: &mut Names, at: usize, brackets: u32) -> Read
     requires source { IsSource from.now.text.now from.now.laid.now }
     requires room { wanted names.old from.now.laid.now at < 2 ^ 32 - 1 }
     requires begins { BeginsType (pieces_of from.now.text.now from.now.laid.now) at brackets }
-    ensures read { Answers Base_type from.now.text.now from.now.laid.now at names.old result names.new }
+    ensures read { Answers from.now.major Base_type from.now.text.now from.now.laid.now at names.old result names.new }
     ensures begins { IfOk result (λ x. BeginsType (pieces_of from.now.text.now from.now.laid.now) x.1 brackets) }
 {
     let part = part_at(from.laid, at)?;
@@ -179,7 +179,7 @@ fn bundle(from: &Source, names: &mut Names, at: usize, brackets: u32) -> Read<Fi
     requires room { wanted names.old from.now.laid.now at < 2 ^ 32 - 1 }
     requires begins { BeginsType (pieces_of from.now.text.now from.now.laid.now) at brackets }
     requires into { GoesInto a_bundle from.now.text.now from.now.laid.now at }
-    ensures read { Answers Base_type from.now.text.now from.now.laid.now at names.old result names.new }
+    ensures read { Answers from.now.major Base_type from.now.text.now from.now.laid.now at names.old result names.new }
     ensures begins { IfOk result (λ x. BeginsType (pieces_of from.now.text.now from.now.laid.now) x.1 brackets) }
 {
     let part = open_bracket(from.text, from.laid, at, b'{', brackets)?;
@@ -197,7 +197,7 @@ fn fields(from: &Source, names: &mut Names, first: usize, brackets: u32) -> Read
     requires room { wanted names.old from.now.laid.now first < 2 ^ 32 - 1 }
     requires stands { StandsIn (pieces_of from.now.text.now from.now.laid.now) first brackets }
     requires within { first ≤ length from.now.laid.now }
-    ensures ok { IfOk result (λ x. HasFields from.now.text.now from.now.laid.now first names.old x.0 x.1 names.new) }
+    ensures ok { IfOk result (λ x. HasFields from.now.major from.now.text.now from.now.laid.now first names.old x.0 x.1 names.new) }
     ensures err { IfErr result (λ fault. IsRefused (A Fields ∷ []) from.now.text.now from.now.laid.now first fault) }
 {
     let mut fields = List::new(from.alloc);
@@ -218,7 +218,7 @@ fn field(from: &Source, names: &mut Names, at: usize, brackets: u32) -> Read<Fie
     requires room { wanted names.old from.now.laid.now at < 2 ^ 32 - 1 }
     requires stands { StandsIn (pieces_of from.now.text.now from.now.laid.now) at brackets }
     ensures further { IfOk result (λ x. at < x.1) }
-    ensures read { Answers FieldRule from.now.text.now from.now.laid.now at names.old result names.new }
+    ensures read { Answers from.now.major FieldRule from.now.text.now from.now.laid.now at names.old result names.new }
 {
     let (flip, named) = flip_before(from.text, from.laid, at)?;
     let (name, typ, end) = named_type(from, names, named, brackets)?;
@@ -236,7 +236,7 @@ fn named_type(
     requires source { IsSource from.now.text.now from.now.laid.now }
     requires room { wanted names.old from.now.laid.now at < 2 ^ 32 - 1 }
     requires stands { StandsIn (pieces_of from.now.text.now from.now.laid.now) at brackets }
-    ensures ok { IfOk result (λ x. HasPassed (field ∷ colon ∷ A Type_of ∷ []) from.now.text.now from.now.laid.now at names.old (x.0, (x.1, tt)) x.2 names.new) }
+    ensures ok { IfOk result (λ x. HasPassed from.now.major (field ∷ colon ∷ A Type_of ∷ []) from.now.text.now from.now.laid.now at names.old (x.0, (x.1, tt)) x.2 names.new) }
     ensures further { IfOk result (λ x. at < x.2) }
     ensures err { IfErr result (λ fault. IsRefused (field ∷ colon ∷ A Type_of ∷ []) from.now.text.now from.now.laid.now at fault) }
 {

@@ -9,7 +9,10 @@ use Rattle.fir_layout.specs.Pieces.{Piece, A_token, A_line_end, A_block_opens, A
 use Rattle.prim_ops.specs.declared.operation.PrimOp.{PrimOp}
 use Rattle.prim_ops.specs.declared.operation.PrimOp.TheVariants.{Add, Sub, Mul, Div, Rem, Lt, Leq, Gt, Geq, Eq, Neq, Pad, AsUInt, AsSInt, AsAsyncReset, Shl, Shr, ShrFour, Dshl, Dshr, Cvt, Neg, Not, And, Or, Xor, Andr, Orr, Xorr, Cat, Bits, Head, Tail}
 use Rattle.prim_ops.specs.Operations.{name_of, IsWritten}
-use Rattle.fir_grammar.specs.Grammar.{Terminal, The_word, The_call, The_mark, A_name, A_field, A_number, A_quoted_number, Opens, Closes, Takes, Kept, Symbol, Is, A, Rule, Text, Circuit_body, Modules, Module, Module_body, Ports, Port, Type_of, Lengths, Base_type, Width, Fields, Field, Statements, Statement, Block, Branches, Memory_lines, Memory_line, Under_write, Expression, Expressions, Numbers, Reference, Suffixes, Integer, IsCase, a_text, no_modules, some_modules, last_module, next_module, a_module, no_module_body, a_module_body, next_port, last_port, an_input, an_output, a_type, last_length, next_length, an_unsigned, a_signed, a_clock, a_reset, a_bundle, no_width, a_width, last_field, next_field, plain_field, flipped_field, last_statement, next_statement, a_wire, a_register, a_reset_register, a_memory, an_instance, a_node, a_connect, an_invalidate, a_when, a_skip, no_branch, else_when, else_, no_block, a_block, last_memory_line, next_memory_line, a_data_type, a_depth, a_read_latency, a_write_latency, a_read_under_write, under_old, under_new, under_undefined, a_reader, a_writer, a_readwriter, a_reference, a_mux, an_operation, no_more_expressions, one_more_expression, no_more_numbers, one_more_number, a_component, no_suffix, a_field_suffix, an_element_suffix, an_index_suffix, an_unsigned_literal, a_signed_literal, a_wide_unsigned_literal, a_wide_signed_literal, a_plain_integer, a_negative_integer, a_quoted_integer, Derives, meets, expands, Front}
+use Rattle.fir_tree.specs.declared.print.Piece.{Piece as PrintPiece}
+use Rattle.item_lines.specs.Formats.{shows}
+use Rattle.item_lines.proofs.Formats.{quoted_pieces, quoted_pieces_are}
+use Rattle.fir_grammar.specs.Grammar.{Terminal, The_word, The_call, The_mark, A_name, A_field, A_number, A_quoted_number, A_format, Opens, Closes, Line_ends, Takes, Kept, Symbol, Is, A, Rule, Text, Circuit_body, Modules, Module, Module_body, Ports, Port, Type_of, Lengths, Base_type, Width, Fields, Field, Statements, Statement, Printed, Item_end, Block, Branches, Memory_lines, Memory_line, Under_write, Expression, Expressions, Numbers, Reference, Suffixes, Integer, IsCase, a_text, no_modules, some_modules, last_module, next_module, a_module, a_public_module, no_module_body, a_module_body, next_port, last_port, an_input, an_output, a_type, last_length, next_length, an_unsigned, a_signed, a_clock, a_reset, a_bundle, no_width, a_width, last_field, next_field, plain_field, flipped_field, last_statement, next_statement, a_wire, a_print, printed, a_stop, without_label, with_label, a_register, a_reset_register, a_memory, an_instance, a_node, a_connect, an_invalidate, a_when, a_skip, no_branch, else_when, else_, no_block, a_block, last_memory_line, next_memory_line, a_data_type, a_depth, a_read_latency, a_write_latency, a_read_under_write, under_old, under_new, under_undefined, a_reader, a_writer, a_readwriter, a_reference, a_mux, an_operation, no_more_expressions, one_more_expression, no_more_numbers, one_more_number, a_component, no_suffix, a_field_suffix, an_element_suffix, an_index_suffix, an_unsigned_literal, a_signed_literal, a_wide_unsigned_literal, a_wide_signed_literal, a_plain_integer, a_negative_integer, a_quoted_integer, Derives, meets, expands, Front}
 use Rattle.fir_grammar.specs.Reading.{CannotBegin, IsSettled}
 use Rattle.fir_grammar.proofs.Fronts.{Derives-whole}
 
@@ -62,11 +65,16 @@ operation_in (prim ∷ prims) ps other = if starts_call (name_of prim.0) ps then
 abbrev pub operations : List Written
 operations = (Add, tt) ∷ (Sub, tt) ∷ (Mul, tt) ∷ (Div, tt) ∷ (Rem, tt) ∷ (Lt, tt) ∷ (Leq, tt) ∷ (Gt, tt) ∷ (Geq, tt) ∷ (Eq, tt) ∷ (Neq, tt) ∷ (Pad, tt) ∷ (AsUInt, tt) ∷ (AsSInt, tt) ∷ (Shl, tt) ∷ (Shr, tt) ∷ (Dshl, tt) ∷ (Dshr, tt) ∷ (Cvt, tt) ∷ (Neg, tt) ∷ (Not, tt) ∷ (And, tt) ∷ (Or, tt) ∷ (Xor, tt) ∷ (Andr, tt) ∷ (Orr, tt) ∷ (Xorr, tt) ∷ (Cat, tt) ∷ (Bits, tt) ∷ (Head, tt) ∷ (Tail, tt) ∷ []
 
+-- the pieces of the format that stands first
+abbrev pub pieces_in : List Piece → List PrintPiece
+pieces_in (A_token kind.Text bytes ∷ ps) = quoted_pieces bytes
+pieces_in _ = []
+
 abbrev pub choose : (r : Rule) → List Piece → Option (Chosen r)
 choose Text ps = Some (_, a_text)
 choose Circuit_body ps = if opens ps then Some (_, some_modules) else Some (_, no_modules)
 choose Modules ps = if closes ps then Some (_, last_module) else Some (_, next_module)
-choose Module ps = Some (_, a_module)
+choose Module ps = if starts_word "public" ps then Some (_, a_public_module) else Some (_, a_module)
 choose Module_body ps = if opens ps then Some (_, a_module_body) else Some (_, no_module_body)
 choose Ports ps = if starts_word "input" ps then Some (_, next_port) else if starts_word "output" ps then Some (_, next_port) else Some (_, last_port)
 choose Port ps = if starts_word "input" ps then Some (_, an_input) else Some (_, an_output)
@@ -88,7 +96,11 @@ choose Statement ps = if starts_word "wire" ps then Some (_, a_wire) else
     if starts_word "node" ps then Some (_, a_node) else
     if starts_word "connect" ps then Some (_, a_connect) else
     if starts_word "invalidate" ps then Some (_, an_invalidate) else
-    if starts_word "when" ps then Some (_, a_when) else Some (_, a_skip)
+    if starts_word "when" ps then Some (_, a_when) else
+    if starts_call (codes "printf") ps then Some (_, a_print) else
+    if starts_call (codes "stop") ps then Some (_, a_stop) else Some (_, a_skip)
+choose Printed ps = Some (_, printed (shows (pieces_in ps)))
+choose Item_end ps = if starts_mark 58 ps then Some (_, with_label) else Some (_, without_label)
 choose Block ps = if opens ps then Some (_, a_block) else Some (_, no_block)
 choose Branches ps = if starts_word "else" ps then (if starts_mark 58 (behind ps) then Some (_, else_) else Some (_, else_when)) else Some (_, no_branch)
 choose Memory_lines ps = if closes ps then Some (_, last_memory_line) else Some (_, next_memory_line)
@@ -243,9 +255,12 @@ statement_open ss ps _ a_connect d = ap closes (word_first d).is
 statement_open ss ps _ an_invalidate d = ap closes (word_first d).is
 statement_open ss ps _ a_when d = ap closes (word_first d).is
 statement_open ss ps _ a_skip d = ap closes (word_first d).is
+statement_open ss ps _ a_print d = ap closes (call_first d).is
+statement_open ss ps _ a_stop d = ap closes (call_first d).is
 
 module_open : (ss : List Symbol) (ps : List Piece) (body : List Symbol) → IsCase Module body → Derives (body ++ ss) ps → closes ps ≡ false
 module_open ss ps _ a_module d = ap closes (word_first d).is
+module_open ss ps _ a_public_module d = ap closes (word_first d).is
 
 memory_line_open : (ss : List Symbol) (ps : List Piece) (body : List Symbol) → IsCase Memory_line body → Derives (body ++ ss) ps → closes ps ≡ false
 memory_line_open ss ps _ a_data_type d = ap closes (word_first d).is
@@ -268,6 +283,8 @@ statement_word ss ps _ a_connect d = (ap (starts_word "input") (word_first d).is
 statement_word ss ps _ an_invalidate d = (ap (starts_word "input") (word_first d).is, ap (starts_word "output") (word_first d).is)
 statement_word ss ps _ a_when d = (ap (starts_word "input") (word_first d).is, ap (starts_word "output") (word_first d).is)
 statement_word ss ps _ a_skip d = (ap (starts_word "input") (word_first d).is, ap (starts_word "output") (word_first d).is)
+statement_word ss ps _ a_print d = (ap (starts_word "input") (call_first d).is, ap (starts_word "output") (call_first d).is)
+statement_word ss ps _ a_stop d = (ap (starts_word "input") (call_first d).is, ap (starts_word "output") (call_first d).is)
 
 statements_word : (ss : List Symbol) (ps : List Piece) (body : List Symbol) → IsCase Statements body → Derives (body ++ ss) ps → (starts_word "input" ps ≡ false) × (starts_word "output" ps ≡ false)
 statements_word ss ps _ last_statement d = (ap (starts_word "input") (close_first d).is, ap (starts_word "output") (close_first d).is)
@@ -298,6 +315,32 @@ field_mark ss ps m _ flipped_field d = ap (starts_mark m) (word_first d).is
 digits_piece : (p : Piece) → Takes A_number p → (bytes : List ℕ) × (p ≡ A_token kind.Digits bytes)
 digits_piece (A_token kind.Digits bytes) h = (bytes, refl)
 digits_piece _ h = absurd h
+
+-- the pieces of a format, as many shown as it says
+record Format_first (n : ℕ) (ps : List Piece) : Type 0 where
+  bytes : List ℕ
+  others : List Piece
+  is : ps ≡ A_token kind.Text bytes ∷ others
+  many : shows (quoted_pieces bytes) ≡ n
+
+format_piece : (n : ℕ) (p : Piece) → Takes (A_format n) p → (bytes : List ℕ) × (p ≡ A_token kind.Text bytes) × (shows (quoted_pieces bytes) ≡ n)
+format_piece n (A_token kind.Text bytes) h = (bytes, refl, ap shows (quoted_pieces_are bytes h.1) ∙ h.2)
+format_piece n _ h = absurd h
+
+format_first : {k : Kept} {n : ℕ} {ss : List Symbol} {ps : List Piece} → Derives (Is k (A_format n) ∷ ss) ps → Format_first n ps
+format_first {n} d = let s = start d in let q = format_piece n s.piece s.taken in
+    record { bytes = q.0; others = s.others; is = s.is ∙ ap (λ (p : Piece). p ∷ s.others) q.1; many = q.2 }
+
+line_piece : (p : Piece) → Takes Line_ends p → p ≡ A_line_end
+line_piece A_line_end h = refl
+line_piece _ h = absurd h
+
+record Line_first (ps : List Piece) : Type 0 where
+  others : List Piece
+  is : ps ≡ A_line_end ∷ others
+
+line_first : {k : Kept} {ss : List Symbol} {ps : List Piece} → Derives (Is k Line_ends ∷ ss) ps → Line_first ps
+line_first d = let s = start d in record { others = s.others; is = s.is ∙ ap (λ (p : Piece). p ∷ s.others) (line_piece s.piece s.taken) }
 
 string_piece : (p : Piece) → Takes A_quoted_number p → (bytes : List ℕ) × (p ≡ A_token kind.Text bytes)
 string_piece (A_token kind.Text bytes) h = (bytes, refl)
@@ -405,6 +448,9 @@ reference_chosen ss ps c _ a_component d =
     let s = start d in let e = enter s.more in
     ap (choose Expression) s.is ∙ reference_piece s.piece s.taken s.others (suffixes_less ss s.others c e.body e.case e.more)
 
+abbrev printed_case : ℕ → Option (Chosen Printed)
+printed_case n = Some (_, printed n)
+
 -- a list that a case derives is one that the case is chosen for
 pub chooses : {r : Rule} {body : List Symbol} (ss : List Symbol) (ps : List Piece) → IsSettled (A r ∷ ss) → (case : IsCase r body) → Derives (body ++ ss) ps → choose r ps ≡ Some (body, case)
 chooses ss ps h a_text d = refl
@@ -412,7 +458,8 @@ chooses ss ps h no_modules d = rw (open_test ss ps h.0.0 (Derives-whole d)) refl
 chooses ss ps h some_modules d = ap (choose Circuit_body) (open_first d).is
 chooses ss ps h last_module d = ap (choose Modules) (close_first d).is
 chooses ss ps h next_module d = let e = enter d in rw (module_open (A Modules ∷ ss) ps e.body e.case e.more) refl
-chooses ss ps h a_module d = refl
+chooses ss ps h a_module d = ap (choose Module) (word_first d).is
+chooses ss ps h a_public_module d = ap (choose Module) (word_first d).is
 chooses ss ps h no_module_body d = rw (open_test ss ps h.0.0 (Derives-whole d)) refl
 chooses ss ps h a_module_body d = ap (choose Module_body) (open_first d).is
 chooses ss ps h next_port d = let e = enter d in port_chosen _ ps e.body e.case e.more
@@ -447,6 +494,11 @@ chooses ss ps h a_connect d = ap (choose Statement) (word_first d).is
 chooses ss ps h an_invalidate d = ap (choose Statement) (word_first d).is
 chooses ss ps h a_when d = ap (choose Statement) (word_first d).is
 chooses ss ps h a_skip d = ap (choose Statement) (word_first d).is
+chooses ss ps h a_print d = ap (choose Statement) (call_first d).is
+chooses ss ps h a_stop d = ap (choose Statement) (call_first d).is
+chooses ss ps h (printed n) d = let f = format_first d in ap printed_case (ap (λ (qs : List Piece). shows (pieces_in qs)) f.is ∙ f.many)
+chooses ss ps h without_label d = ap (choose Item_end) (line_first d).is
+chooses ss ps h with_label d = ap (choose Item_end) (mark_first d).is
 chooses ss ps h no_branch d = rw (else_test ss ps h.0.0 (Derives-whole d)) refl
 chooses ss ps h else_when d = let w = word_first d in let v = word_first w.more in ap (choose Branches) (w.is ∙ ap (λ (qs : List Piece). A_token kind.Word (codes "else") ∷ qs) v.is)
 chooses ss ps h else_ d = let w = word_first d in let v = mark_first w.more in ap (choose Branches) (w.is ∙ ap (λ (qs : List Piece). A_token kind.Word (codes "else") ∷ qs) v.is)

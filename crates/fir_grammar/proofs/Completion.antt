@@ -1,10 +1,12 @@
 -- Every front goes on to a list that is derived.
-use Rattle.std.proofs.Common.{◌≡◌, ℕ, zero, suc, false, List, [], ◌∷◌, ◌++◌, refl, append_assoc, codes, arith}
+use Rattle.std.proofs.Common.{◌≡◌, ℕ, zero, suc, false, List, [], ◌∷◌, ◌++◌, refl, append_assoc, codes, arith, inl}
 use Rattle.bit_words.specs.declared.number.Base.TheVariants.{Hexadecimal}
 use Rattle.bit_words.specs.Numbers.{plain}
 use Rattle.fir_lexer.specs.declared.token.TokenKind.TheVariants as kind
+use Rattle.item_lines.specs.Formats.{quoted}
+use Rattle.item_lines.proofs.Formats.{shown_format, shown_pieces, shown_is, shown_many}
 use Rattle.fir_layout.specs.Pieces.{Piece, A_token, A_line_end, A_block_opens, A_block_closes, The_end}
-use Rattle.fir_grammar.specs.Grammar.{Terminal, The_word, The_call, A_name, A_field, A_number, Three, A_quoted_number, The_mark, The_arrow, Line_ends, Opens, Closes, Ends, Takes, quoted, Kept, Symbol, Is, A, Rule, Text, Circuit_body, Modules, Module, Module_body, Ports, Port, Type_of, Lengths, Base_type, Width, Fields, Field, Statements, Statement, Block, Branches, Memory_lines, Memory_line, Under_write, Expression, Expressions, Numbers, Reference, Suffixes, Integer, IsCase, a_text, no_modules, last_module, a_module, no_module_body, last_port, an_input, a_type, last_length, a_clock, no_width, last_field, plain_field, last_statement, a_skip, no_branch, no_block, last_memory_line, a_depth, under_old, a_reference, no_more_expressions, one_more_expression, no_more_numbers, one_more_number, a_component, no_suffix, a_plain_integer, Derives, done, meets, expands, Front, cut, takes_on, goes_into}
+use Rattle.fir_grammar.specs.Grammar.{Terminal, The_word, The_call, A_name, A_field, A_number, A_major, A_quoted_number, A_format, The_mark, The_arrow, Line_ends, Opens, Closes, Ends, Takes, quoted as number_quoted, Kept, Symbol, Is, A, Rule, Text, Circuit_body, Modules, Module, Module_body, Ports, Port, Type_of, Lengths, Base_type, Width, Fields, Field, Statements, Statement, Printed, Item_end, Block, Branches, Memory_lines, Memory_line, Under_write, Expression, Expressions, Numbers, Reference, Suffixes, Integer, IsCase, a_text, no_modules, last_module, a_module, no_module_body, last_port, an_input, a_type, last_length, a_clock, no_width, last_field, plain_field, last_statement, a_skip, printed, without_label, no_branch, no_block, last_memory_line, a_depth, under_old, a_reference, no_more_expressions, one_more_expression, no_more_numbers, one_more_number, a_component, no_suffix, a_plain_integer, Derives, done, meets, expands, Front, cut, takes_on, goes_into}
 
 -- what symbols derive one behind the other
 Derives-append : {ss others : List Symbol} {ps qs : List Piece} → Derives ss ps → Derives others qs → Derives (ss ++ others) (ps ++ qs)
@@ -22,9 +24,10 @@ some_piece (The_call bytes) = (A_token kind.Call (bytes ++ codes "("), refl)
 some_piece A_name = (A_token kind.Word (codes "a"), tt)
 some_piece A_field = (A_token kind.Word (codes "a"), tt)
 some_piece A_number = (A_token kind.Digits (codes "3"), (3, plain (record { some = omega arith; digits = (omega arith, tt); value = refl })))
-some_piece Three = (A_token kind.Digits (codes "3"), plain (record { some = omega arith; digits = (omega arith, tt); value = refl }))
+some_piece A_major = (A_token kind.Digits (codes "3"), inl (plain (record { some = omega arith; digits = (omega arith, tt); value = refl })))
+some_piece (A_format n) = (A_token kind.Text (34 ∷ (shown_format n ++ 34 ∷ [])), (shown_pieces n, quoted _ refl (shown_is n), shown_many n))
 some_piece A_quoted_number =
-    (A_token kind.Text (codes "\"h3\""), (false, 3, quoted Hexadecimal (codes "3") (λ e. cc) refl refl (record { some = omega arith; digits = (omega arith, tt); value = refl })))
+    (A_token kind.Text (codes "\"h3\""), (false, 3, number_quoted Hexadecimal (codes "3") (λ e. cc) refl refl (record { some = omega arith; digits = (omega arith, tt); value = refl })))
 some_piece (The_mark m) = (A_token (kind.Mark m) (m ∷ []), refl)
 some_piece The_arrow = (A_token kind.Arrow (codes "=>"), tt)
 some_piece Line_ends = (A_line_end, tt)
@@ -89,6 +92,8 @@ some_list Fields = by_case last_field tt
 some_list Field = by_case plain_field (a_type_somewhere, tt)
 some_list Statements = by_case last_statement tt
 some_list Statement = by_case a_skip tt
+some_list Printed = by_case (printed 0) (by_case no_more_expressions tt, tt)
+some_list Item_end = by_case without_label tt
 some_list Block = by_case no_block tt
 some_list Branches = by_case no_branch tt
 some_list Memory_lines = by_case last_memory_line tt

@@ -4,7 +4,7 @@ use Rattle.std.proofs.Common.{◌≡◌, ℕ, zero, Bool, true, false, ◌&&◌,
 use Rattle.std.proofs.lemmas.Slice.Eq.{bytes_eq-Decides}
 use Rattle.fir_lexer.specs.declared.token.TokenKind.TheVariants as kind
 use Rattle.fir_layout.specs.Pieces.{Piece, A_token, A_block_opens}
-use Rattle.fir_grammar.specs.Grammar.{The_word, The_mark, Takes, Terminal, Kept, Symbol, Is, A, Rule, Circuit_body, Module_body, Lengths, Width, Block, Branches, Expressions, Numbers, Suffixes, IsCase, a_text, no_modules, some_modules, last_module, next_module, a_module, no_module_body, a_module_body, next_port, last_port, an_input, an_output, a_type, last_length, next_length, an_unsigned, a_signed, a_clock, a_reset, a_bundle, no_width, a_width, last_field, next_field, plain_field, flipped_field, last_statement, next_statement, a_wire, a_register, a_reset_register, a_memory, an_instance, a_node, a_connect, an_invalidate, a_when, a_skip, no_branch, else_when, else_, no_block, a_block, last_memory_line, next_memory_line, a_data_type, a_depth, a_read_latency, a_write_latency, a_read_under_write, under_old, under_new, under_undefined, a_reader, a_writer, a_readwriter, a_reference, a_mux, an_operation, no_more_expressions, one_more_expression, no_more_numbers, one_more_number, a_component, no_suffix, a_field_suffix, an_element_suffix, an_index_suffix, an_unsigned_literal, a_signed_literal, a_wide_unsigned_literal, a_wide_signed_literal, a_plain_integer, a_negative_integer, a_quoted_integer, Derives, done, meets, expands, Front, cut, takes_on}
+use Rattle.fir_grammar.specs.Grammar.{The_word, The_mark, Takes, Terminal, Kept, Symbol, Is, A, Rule, Circuit_body, Module_body, Lengths, Width, Block, Branches, Expressions, Numbers, Suffixes, IsCase, a_text, no_modules, some_modules, last_module, next_module, a_module, a_public_module, no_module_body, a_module_body, next_port, last_port, an_input, an_output, a_type, last_length, next_length, an_unsigned, a_signed, a_clock, a_reset, a_bundle, no_width, a_width, last_field, next_field, plain_field, flipped_field, last_statement, next_statement, a_wire, a_print, printed, a_stop, without_label, with_label, a_register, a_reset_register, a_memory, an_instance, a_node, a_connect, an_invalidate, a_when, a_skip, no_branch, else_when, else_, no_block, a_block, last_memory_line, next_memory_line, a_data_type, a_depth, a_read_latency, a_write_latency, a_read_under_write, under_old, under_new, under_undefined, a_reader, a_writer, a_readwriter, a_reference, a_mux, an_operation, no_more_expressions, one_more_expression, no_more_numbers, one_more_number, a_component, no_suffix, a_field_suffix, an_element_suffix, an_index_suffix, an_unsigned_literal, a_signed_literal, a_wide_unsigned_literal, a_wide_signed_literal, a_plain_integer, a_negative_integer, a_quoted_integer, Derives, done, meets, expands, Front, cut, takes_on}
 use Rattle.fir_grammar.proofs.Cases.{Chosen, choose, starts_mark, starts_word}
 
 pub no_piece : {k : Kept} {s : Terminal} {ss : List Symbol} → ¬ (Derives (Is k s ∷ ss) [])
@@ -46,6 +46,7 @@ empty_body some_modules ss h = cc
 empty_body last_module ss h = cc
 empty_body next_module ss h = cc
 empty_body a_module ss h = cc
+empty_body a_public_module ss h = cc
 empty_body no_module_body ss h = refl
 empty_body a_module_body ss h = cc
 empty_body next_port ss h = cc
@@ -78,6 +79,11 @@ empty_body a_connect ss h = cc
 empty_body an_invalidate ss h = cc
 empty_body a_when ss h = cc
 empty_body a_skip ss h = cc
+empty_body a_print ss h = cc
+empty_body (printed n) ss h = cc
+empty_body a_stop ss h = cc
+empty_body without_label ss h = cc
+empty_body with_label ss h = cc
 empty_body no_branch ss h = refl
 empty_body else_when ss h = cc
 empty_body else_ ss h = cc

@@ -1,6 +1,6 @@
 -- Lists of pieces that the rules derive, and one that they don't.
 use Prim.Native.String.{String}
-use Rattle.std.proofs.Common.{ℕ, ◌<◌, List, [], ◌∷◌, ◌++◌, refl, codes, arith, Some}
+use Rattle.std.proofs.Common.{ℕ, ◌<◌, List, [], ◌∷◌, ◌++◌, refl, codes, arith, Some, inl, inr, ◌≡◌, sym, ap, ◌∙◌, subst}
 use Rattle.bit_words.specs.Numbers.{plain}
 use Rattle.fir_lexer.specs.declared.token.TokenKind.TheVariants as kind
 use Rattle.place_text.specs.declared.place.Place.{Place}
@@ -13,12 +13,17 @@ use Rattle.fir_tree.specs.declared.stmt.Stmt.{Stmt}
 use Rattle.fir_tree.specs.declared.stmt.Stmt.TheVariants as stmt
 use Rattle.fir_tree.specs.declared.expr.Form.TheVariants as form
 use Rattle.fir_tree.specs.Numbered.{AddsName}
+use Rattle.item_lines.specs.declared.line.Line.TheVariants as entry
+use Rattle.item_lines.specs.Formats.{quoted, nothing, a_show}
+use Rattle.fir_tree.specs.declared.print.Radix.TheVariants.{Dec}
 use Rattle.fir_layout.specs.Pieces.{Piece, A_token, A_line_end, A_block_opens, A_block_closes, The_end}
 use Rattle.prim_ops.specs.declared.operation.PrimOp.TheVariants.{Add, Tail}
-use Rattle.fir_grammar.specs.Grammar.{Takes, A_number, Symbol, A, Expression, Module, Port, Statement, Statements, Text, Type_of, IsCase, a_block, a_bundle, a_clock, a_component, a_connect, a_data_type, a_depth, a_field_suffix, a_memory, a_module, a_negative_integer, a_node, a_plain_integer, a_read_latency, a_read_under_write, a_reader, a_reference, a_register, a_reset_register, a_signed_literal, a_skip, a_text, a_type, a_when, a_wide_unsigned_literal, a_width, a_wire, a_write_latency, an_element_suffix, an_index_suffix, an_input, an_instance, an_invalidate, an_operation, an_unsigned, an_unsigned_literal, else_, else_when, flipped_field, last_field, last_length, last_memory_line, last_statement, next_field, next_length, next_memory_line, next_statement, no_block, no_branch, no_module_body, no_modules, no_more_expressions, no_more_numbers, no_suffix, one_more_expression, one_more_number, plain_field, under_old, Derives, done, meets, expands, Front, Spells, no_symbol, a_rule, a_piece, a_place, a_name, a_magnitude}
+use Rattle.fir_grammar.specs.Grammar.{Takes, A_number, Symbol, A, mark, Expression, Expressions, Printed, Module, Port, Statement, Statements, Text, Type_of, IsCase, a_block, a_bundle, a_clock, a_component, a_connect, a_data_type, a_depth, a_field_suffix, a_memory, a_module, a_negative_integer, a_node, a_plain_integer, a_read_latency, a_read_under_write, a_reader, a_reference, a_register, a_reset_register, a_signed_literal, a_skip, a_print, printed, a_stop, without_label, with_label, a_public_module, a_text, a_type, a_when, a_wide_unsigned_literal, a_width, a_wire, a_write_latency, an_element_suffix, an_index_suffix, an_input, an_instance, an_invalidate, an_operation, an_unsigned, an_unsigned_literal, else_, else_when, flipped_field, last_field, last_length, last_memory_line, last_statement, next_field, next_length, next_memory_line, next_statement, no_block, no_branch, no_module_body, no_modules, some_modules, next_module, last_module, no_more_expressions, no_more_numbers, no_suffix, one_more_expression, one_more_number, plain_field, under_old, Derives, done, meets, expands, Front, Spells, no_symbol, a_rule, a_piece, a_place, a_name, a_magnitude}
 use Rattle.fir_grammar.specs.Faults.{IsListed}
 use Rattle.fir_grammar.proofs.Fronts.{Front-taken, Front-entered}
-use Rattle.fir_grammar.proofs.Follows.{texts_apart}
+use Rattle.fir_grammar.proofs.Follows.{texts_apart, expression_mark}
+use Rattle.item_lines.specs.Formats.{shows}
+use Rattle.item_lines.proofs.Formats.{quoted_pieces_are, one_shown}
 use Rattle.fir_tree.proofs.Distinct.{fresh_none}
 
 abbrev w : String → Piece
@@ -98,7 +103,34 @@ short_literal = expands _ (an_operation Add tt) (meets refl (expands _ (one_more
 
 -- A whole text: its circuit has no module.
 empty_text : Derives (A Text ∷ []) (w "FIRRTL" ∷ w "version" ∷ d "3" ∷ m 46 ∷ d "0" ∷ m 46 ∷ d "0" ∷ A_line_end ∷ w "circuit" ∷ w "M" ∷ m 58 ∷ A_line_end ∷ The_end ∷ [])
-empty_text = expands _ a_text (meets refl (meets refl (meets is_3.1 (meets refl (meets is_0 (meets refl (meets is_0 (meets tt (meets refl (meets tt (meets refl (meets tt (expands _ no_modules (meets tt (done)))))))))))))))
+empty_text = expands _ a_text (meets refl (meets refl (meets (inl is_3.1) (meets refl (meets is_0 (meets refl (meets is_0 (meets tt (meets refl (meets tt (meets refl (meets tt (expands _ no_modules (meets tt (done)))))))))))))))
+
+-- The version may be 4, and a module may be public.
+public_text : Derives (A Text ∷ []) (w "FIRRTL" ∷ w "version" ∷ d "4" ∷ m 46 ∷ d "0" ∷ m 46 ∷ d "0" ∷ A_line_end ∷ w "circuit" ∷ w "M" ∷ m 58 ∷ A_line_end ∷ A_block_opens ∷ w "public" ∷ w "module" ∷ w "M" ∷ m 58 ∷ A_line_end ∷ A_block_closes ∷ The_end ∷ [])
+public_text = expands _ a_text (meets refl (meets refl (meets (inr is_4.1) (meets refl (meets is_0 (meets refl (meets is_0 (meets tt (meets refl (meets tt (meets refl (meets tt (expands _ some_modules (meets tt (expands _ next_module (expands _ a_public_module (meets refl (meets refl (meets tt (meets refl (meets tt (expands _ no_module_body (expands _ last_module (meets tt (meets tt done)))))))))))))))))))))))))
+
+-- `stop(` with a label; the condition may be any expression
+stop_line : Derives (A Statement ∷ []) (c "stop" ∷ w "clock" ∷ w "a" ∷ d "3" ∷ m 41 ∷ m 58 ∷ w "s" ∷ A_line_end ∷ [])
+stop_line = expands _ a_stop (meets refl (expands _ a_reference (expands _ a_component (meets tt (expands _ no_suffix (expands _ a_reference (expands _ a_component (meets tt (expands _ no_suffix (meets is_3 (meets refl (expands _ with_label (meets refl (meets tt (meets tt done)))))))))))))))
+
+-- A `printf` takes as many arguments as its format shows.
+print_line : Derives (A Statement ∷ []) (c "printf" ∷ w "clock" ∷ w "a" ∷ A_token kind.Text (codes "\"%d\"") ∷ w "a" ∷ m 41 ∷ A_line_end ∷ [])
+print_line = expands _ a_print (meets refl (expands _ a_reference (expands _ a_component (meets tt (expands _ no_suffix (expands _ a_reference (expands _ a_component (meets tt (expands _ no_suffix (expands _ (printed 1) (meets (_, quoted (codes "%d") refl (a_show {radix = Dec} nothing), refl) (expands _ (one_more_expression 0) (expands _ a_reference (expands _ a_component (meets tt (expands _ no_suffix (expands _ no_more_expressions (meets refl (expands _ without_label (meets tt done))))))))))))))))))))
+
+-- Behind the format `%d` stands an expression: a `)` is bad there.
+print_wants_one : (ss : List Symbol) (ps : List Piece) → ¬ (Front (A Printed ∷ ss) (A_token kind.Text (34 ∷ 37 ∷ 100 ∷ 34 ∷ []) ∷ m 41 ∷ ps))
+print_wants_one ss ps f = let e = Front-entered f in by e.0 e.1 e.2
+  where
+    wanted : (n : ℕ) → n ≡ 1 → ¬ (Front (A (Expressions n) ∷ mark 41 ∷ ss) (m 41 ∷ ps))
+    wanted n one g =
+        let P : ℕ → Type 0 = λ k. Front (A (Expressions k) ∷ mark 41 ∷ ss) (m 41 ∷ ps) in
+        let h = Front-entered (subst P one g) in first h.0 h.1 h.2
+      where
+        first : (body : List Symbol) → IsCase (Expressions 1) body → ¬ (Front (body ++ mark 41 ∷ ss) (m 41 ∷ ps))
+        first _ (one_more_expression _) h = expression_mark (A (Expressions 0) ∷ mark 41 ∷ ss) 41 (41 ∷ []) ps h
+
+    by : (body : List Symbol) → IsCase Printed body → ¬ (Front (body ++ ss) (A_token kind.Text (34 ∷ 37 ∷ 100 ∷ 34 ∷ []) ∷ m 41 ∷ ps))
+    by _ (printed n) g = let t = Front-taken g in wanted n (sym t.0.2 ∙ ap shows (sym (quoted_pieces_are _ t.0.1)) ∙ one_shown) t.1
 
 -- `cmem` begins no statement and closes no block, and is one of the listed words: a text that comes to it is Unsupported.
 statement_not_cmem : (ss : List Symbol) (body : List Symbol) (ps : List Piece) → IsCase Statement body → ¬ (Front (body ++ ss) (w "cmem" ∷ ps))
@@ -112,6 +144,8 @@ statement_not_cmem ss _ ps a_connect f = texts_apart (codes "cmem") (codes "conn
 statement_not_cmem ss _ ps an_invalidate f = texts_apart (codes "cmem") (codes "invalidate") refl (Front-taken f).0
 statement_not_cmem ss _ ps a_when f = texts_apart (codes "cmem") (codes "when") refl (Front-taken f).0
 statement_not_cmem ss _ ps a_skip f = texts_apart (codes "cmem") (codes "skip") refl (Front-taken f).0
+statement_not_cmem ss _ ps a_print f = (Front-taken f).0
+statement_not_cmem ss _ ps a_stop f = (Front-taken f).0
 
 statements_not_cmem : (ss : List Symbol) (body : List Symbol) (ps : List Piece) → IsCase Statements body → ¬ (Front (body ++ ss) (w "cmem" ∷ ps))
 statements_not_cmem ss _ ps last_statement f = (Front-taken f).0
@@ -121,7 +155,7 @@ cmem_cannot : (ss : List Symbol) (ps : List Piece) → ¬ (Front (A Statements �
 cmem_cannot ss ps f = let e = Front-entered f in statements_not_cmem ss e.0 ps e.1 e.2
 
 cmem_listed : IsListed (w "cmem")
-cmem_listed = (31, omega arith, refl)
+cmem_listed = (30, omega arith, refl)
 
 -- A line with its tree: names are numbered in the order of their first use, and places count from the text's first byte.
 
@@ -149,9 +183,9 @@ first_name = record { known = λ c. let within : c.0 < 0 = c.1 in absurd (omega 
 second_name : AddsName (codes "reg" ∷ []) (codes "reg" ∷ codes "clock" ∷ []) (codes "clock") 1
 second_name = record { known = λ c. absurd (fresh_none (codes "reg" ∷ []) (codes "clock") refl c); added = λ none. refl; number = refl }
 
-register_spelled : Spells register_line (A Statement ∷ []) register_list [] (register, tt) [] (codes "reg" ∷ codes "clock" ∷ [])
+register_spelled : (major : ℕ) → Spells major register_line (A Statement ∷ []) register_list [] (entry.Plain register, tt) [] (codes "reg" ∷ codes "clock" ∷ [])
 unfolding place
-register_spelled =
+register_spelled major =
     a_rule a_register (a_piece refl (a_name tt first_name (a_piece refl
     (a_rule a_type (a_rule an_unsigned (a_place refl (a_rule a_width (a_piece refl (a_magnitude is_1 is_1.1 (a_piece refl no_symbol))) no_symbol)) (a_rule last_length no_symbol no_symbol))
     (a_rule a_reference (a_rule a_component (a_name tt second_name (a_rule no_suffix no_symbol no_symbol)) no_symbol) (a_piece tt no_symbol)))))) no_symbol

@@ -4,7 +4,7 @@ use Rattle.std.proofs.lemmas.Slice.Eq.{bytes_eq-Decides}
 use Rattle.fir_lexer.specs.declared.token.TokenKind.TheVariants as kind
 use Rattle.fir_layout.specs.Pieces.{Piece, A_token, A_block_opens}
 use Rattle.prim_ops.specs.Operations.{arity_of}
-use Rattle.fir_grammar.specs.Grammar.{Terminal, The_word, The_mark, Opens, Takes, Kept, Symbol, Is, A, close, mark, line_end, Front, Rule, Modules, Module, Ports, Type_of, Lengths, Base_type, Fields, Field, Statements, Statement, Block, Branches, Memory_lines, Expression, Expressions, Numbers, Reference, Suffixes, IsCase, a_text, no_modules, some_modules, last_module, next_module, a_module, no_module_body, a_module_body, next_port, last_port, an_input, an_output, a_type, last_length, next_length, an_unsigned, a_signed, a_clock, a_reset, a_bundle, no_width, a_width, last_field, next_field, plain_field, flipped_field, last_statement, next_statement, a_wire, a_register, a_reset_register, a_memory, an_instance, a_node, a_connect, an_invalidate, a_when, a_skip, no_branch, else_when, else_, no_block, a_block, last_memory_line, next_memory_line, a_data_type, a_depth, a_read_latency, a_write_latency, a_read_under_write, under_old, under_new, under_undefined, a_reader, a_writer, a_readwriter, a_reference, a_mux, an_operation, no_more_expressions, one_more_expression, no_more_numbers, one_more_number, a_component, no_suffix, a_field_suffix, an_element_suffix, an_index_suffix, an_unsigned_literal, a_signed_literal, a_wide_unsigned_literal, a_wide_signed_literal, a_plain_integer, a_negative_integer, a_quoted_integer}
+use Rattle.fir_grammar.specs.Grammar.{Terminal, The_word, The_mark, Opens, Takes, Kept, Symbol, Is, A, close, mark, number, line_end, Front, Rule, Modules, Module, Ports, Type_of, Lengths, Base_type, Fields, Field, Statements, Statement, Printed, Item_end, Block, Branches, Memory_lines, Expression, Expressions, Numbers, Reference, Suffixes, IsCase, a_text, no_modules, some_modules, last_module, next_module, a_module, a_public_module, no_module_body, a_module_body, next_port, last_port, an_input, an_output, a_type, last_length, next_length, an_unsigned, a_signed, a_clock, a_reset, a_bundle, no_width, a_width, last_field, next_field, plain_field, flipped_field, last_statement, next_statement, a_wire, a_print, printed, a_stop, without_label, with_label, a_register, a_reset_register, a_memory, an_instance, a_node, a_connect, an_invalidate, a_when, a_skip, no_branch, else_when, else_, no_block, a_block, last_memory_line, next_memory_line, a_data_type, a_depth, a_read_latency, a_write_latency, a_read_under_write, under_old, under_new, under_undefined, a_reader, a_writer, a_readwriter, a_reference, a_mux, an_operation, no_more_expressions, one_more_expression, no_more_numbers, one_more_number, a_component, no_suffix, a_field_suffix, an_element_suffix, an_index_suffix, an_unsigned_literal, a_signed_literal, a_wide_unsigned_literal, a_wide_signed_literal, a_plain_integer, a_negative_integer, a_quoted_integer}
 use Rattle.fir_grammar.specs.Reading.{goes_on_with, CannotBegin, CannotBeginAll, IsSettled, Stands, at_first, into_case, behind_rule, behind_piece}
 use Rattle.fir_grammar.proofs.Fronts.{Front-taken, Front-entered}
 
@@ -70,7 +70,7 @@ expression_mark_case ss m bytes _ a_signed_literal ps f = (Front-taken f).0
 expression_mark_case ss m bytes _ a_wide_unsigned_literal ps f = (Front-taken f).0
 expression_mark_case ss m bytes _ a_wide_signed_literal ps f = (Front-taken f).0
 
-expression_mark : (ss : List Symbol) (m : ℕ) (bytes : List ℕ) → Never (A Expression ∷ ss) (a_mark m bytes)
+pub expression_mark : (ss : List Symbol) (m : ℕ) (bytes : List ℕ) → Never (A Expression ∷ ss) (a_mark m bytes)
 expression_mark ss m bytes = never_rule Expression ss (a_mark m bytes) (expression_mark_case ss m bytes)
 
 expressions_mark_case : (ss : List Symbol) (m : ℕ) (bytes : List ℕ) (n : ℕ) → Never ss (a_mark m bytes) → (body : List Symbol) → IsCase (Expressions n) body → Never (body ++ ss) (a_mark m bytes)
@@ -107,6 +107,7 @@ lengths_mark ss bytes never = never_rule Lengths ss (a_mark 60 bytes) (lengths_m
 
 module_open_case : (ss : List Symbol) (body : List Symbol) → IsCase Module body → Never (body ++ ss) A_block_opens
 module_open_case ss _ a_module ps f = (Front-taken f).0
+module_open_case ss _ a_public_module ps f = (Front-taken f).0
 
 modules_open_case : (ss : List Symbol) (body : List Symbol) → IsCase Modules body → Never (body ++ ss) A_block_opens
 modules_open_case ss _ last_module ps f = (Front-taken f).0
@@ -123,6 +124,8 @@ statement_open_case ss _ a_connect ps f = (Front-taken f).0
 statement_open_case ss _ an_invalidate ps f = (Front-taken f).0
 statement_open_case ss _ a_when ps f = (Front-taken f).0
 statement_open_case ss _ a_skip ps f = (Front-taken f).0
+statement_open_case ss _ a_print ps f = (Front-taken f).0
+statement_open_case ss _ a_stop ps f = (Front-taken f).0
 
 statement_else_case : (ss : List Symbol) (body : List Symbol) → IsCase Statement body → Never (body ++ ss) else_word
 statement_else_case ss _ a_wire ps f = texts_apart (codes "else") (codes "wire") refl (Front-taken f).0
@@ -135,6 +138,8 @@ statement_else_case ss _ a_connect ps f = texts_apart (codes "else") (codes "con
 statement_else_case ss _ an_invalidate ps f = texts_apart (codes "else") (codes "invalidate") refl (Front-taken f).0
 statement_else_case ss _ a_when ps f = texts_apart (codes "else") (codes "when") refl (Front-taken f).0
 statement_else_case ss _ a_skip ps f = texts_apart (codes "else") (codes "skip") refl (Front-taken f).0
+statement_else_case ss _ a_print ps f = (Front-taken f).0
+statement_else_case ss _ a_stop ps f = (Front-taken f).0
 
 statements_open_case : (ss : List Symbol) (body : List Symbol) → IsCase Statements body → Never (body ++ ss) A_block_opens
 statements_open_case ss _ last_statement ps f = (Front-taken f).0
@@ -168,6 +173,16 @@ expression_mark_next ss m a b c = (off_mark _ _ ss 46 (λ _ h. a h), (off_mark _
 
 expression_expression : (ss : List Symbol) → CannotBeginAll (A Expression ∷ ss) (goes_on_with Expression)
 expression_expression ss = let c = λ (m : ℕ). cannot_mark (A Expression ∷ ss) m (expression_mark ss m) in (c 46, (c 91, (c 60, tt)))
+
+printed_mark_case : (ss : List Symbol) (m : ℕ) (bytes : List ℕ) (body : List Symbol) → IsCase Printed body → Never (body ++ ss) (a_mark m bytes)
+printed_mark_case ss m bytes _ (printed n) ps f = (Front-taken f).0
+
+expression_printed : (ss : List Symbol) → CannotBeginAll (A Printed ∷ ss) (goes_on_with Expression)
+expression_printed ss =
+    let c = λ (m : ℕ). cannot_mark (A Printed ∷ ss) m (λ bytes. never_rule Printed ss (a_mark m bytes) (printed_mark_case ss m bytes)) in (c 46, (c 91, (c 60, tt)))
+
+expression_number : (ss : List Symbol) → CannotBeginAll (number ∷ ss) (goes_on_with Expression)
+expression_number ss = (off_mark _ _ ss 46 (λ b h. h), (off_mark _ _ ss 91 (λ b h. h), (off_mark _ _ ss 60 (λ b h. h), tt)))
 
 type_expression : (ss : List Symbol) → CannotBeginAll (A Expression ∷ ss) (goes_on_with Type_of)
 type_expression ss = let c = λ (m : ℕ). cannot_mark (A Expression ∷ ss) m (expression_mark ss m) in (c 60, (c 91, tt))
@@ -209,6 +224,7 @@ settled_case ss some_modules h = (tt, h.1)
 settled_case ss last_module h = h.1
 settled_case ss next_module h = (module_modules ss, (tt, h.1))
 settled_case ss a_module h = h
+settled_case ss a_public_module h = h
 settled_case ss no_module_body h = h.1
 settled_case ss a_module_body h = (tt, h.1)
 settled_case ss next_port h = (type_line (A Ports ∷ ss), (tt, h.1))
@@ -243,6 +259,11 @@ settled_case ss an_invalidate h = (reference_line ss, h.1)
 settled_case ss a_when h =
     (expression_mark_next (line_end ∷ A Block ∷ A Branches ∷ ss) 58 (apart 46 58 refl) (apart 91 58 refl) (apart 60 58 refl), (block_branches ss h.0.1.0, h))
 settled_case ss a_skip h = h.1
+settled_case ss a_print h = (expression_expression (A Printed ∷ A Item_end ∷ ss), (expression_printed (A Item_end ∷ ss), (tt, (tt, h.1))))
+settled_case ss (printed n) h = (expression_mark_next ss 41 (apart 46 41 refl) (apart 91 41 refl) (apart 60 41 refl), h.1)
+settled_case ss a_stop h = (expression_expression (number ∷ close ∷ A Item_end ∷ ss), (expression_number (close ∷ A Item_end ∷ ss), (tt, h.1)))
+settled_case ss without_label h = h.1
+settled_case ss with_label h = h.1
 settled_case ss no_branch h = h.1
 settled_case ss else_when h =
     (expression_mark_next (line_end ∷ A Block ∷ A Branches ∷ ss) 58 (apart 46 58 refl) (apart 91 58 refl) (apart 60 58 refl), (block_branches ss h.0.1.0, h))

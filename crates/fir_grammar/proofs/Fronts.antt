@@ -3,7 +3,7 @@ use Rattle.std.proofs.Common.{ℕ, zero, suc, List, ◌∷◌, ◌++◌, take}
 use Rattle.std.proofs.Math.Seq.{take-nil}
 use Rattle.fir_layout.specs.declared.laid.Laid.{Laid}
 use Rattle.fir_layout.specs.Pieces.{Piece, pieces_of}
-use Rattle.fir_grammar.specs.Grammar.{Terminal, Takes, Rule, Symbol, Is, A, IsCase, Derives, done, meets, expands, Front, cut, takes_on, goes_into, Values, Spells, no_symbol, a_rule, a_piece, a_place, a_name, a_magnitude, a_placed_magnitude, a_quoted}
+use Rattle.fir_grammar.specs.Grammar.{Terminal, Takes, Rule, Symbol, Is, A, IsCase, Derives, done, meets, expands, Front, cut, takes_on, goes_into, Values, Spells, no_symbol, a_rule, a_piece, a_place, a_name, a_magnitude, a_placed_magnitude, a_quoted, a_format}
 
 pub Derives-front : {ss : List Symbol} {ps : List Piece} (k : ℕ) → Derives ss ps → Front ss (take k ps)
 Derives-front k done = rw (take-nil k) cut
@@ -12,8 +12,8 @@ Derives-front (suc k) (meets h d) = takes_on h (Derives-front k d)
 Derives-front k (expands body case d) = goes_into body case (Derives-front k d)
 
 -- symbols that are spelled up to a place derive what stands before it, in front of what other symbols derive
-pub spelled_derives : (text : List ℕ) {ss others : List Symbol} {ls rest : List Laid} {names after : List (List ℕ)} {vs : Values ss}
-    → Spells text ss ls names vs rest after → Derives others (pieces_of text rest) → Derives (ss ++ others) (pieces_of text ls)
+pub spelled_derives : {major : ℕ} (text : List ℕ) {ss others : List Symbol} {ls rest : List Laid} {names after : List (List ℕ)} {vs : Values ss}
+    → Spells major text ss ls names vs rest after → Derives others (pieces_of text rest) → Derives (ss ++ others) (pieces_of text ls)
 spelled_derives text no_symbol d = d
 spelled_derives text (a_rule case inner more) d = expands _ case (spelled_derives text inner (spelled_derives text more d))
 spelled_derives text (a_piece h more) d = meets h (spelled_derives text more d)
@@ -22,6 +22,7 @@ spelled_derives text (a_name h adds more) d = meets h (spelled_derives text more
 spelled_derives text (a_magnitude h is more) d = meets h (spelled_derives text more d)
 spelled_derives text (a_placed_magnitude h is more) d = meets h (spelled_derives text more d)
 spelled_derives text (a_quoted h is more) d = meets h (spelled_derives text more d)
+spelled_derives text (a_format h is more) d = meets h (spelled_derives text more d)
 
 pub Front-taken : {k : _} {s : Terminal} {ss : List Symbol} {p : Piece} {ps : List Piece} → Front (Is k s ∷ ss) (p ∷ ps) → Takes s p × Front ss ps
 Front-taken (takes_on h f) = (h, f)

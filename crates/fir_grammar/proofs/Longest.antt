@@ -10,7 +10,7 @@ use Rattle.fir_layout.specs.Pieces.{Piece, piece_of, pieces_of}
 use Rattle.fir_tree.specs.declared.fault.ParseFault.{ParseFault}
 use Rattle.fir_tree.specs.declared.fault.ParseFault.TheVariants.{NoMemory}
 use Rattle.fir_tree.specs.Numbered.{IsDistinct}
-use Rattle.fir_grammar.specs.Grammar.{Terminal, Symbol, A, Rule, Tree, Derives, done, Front, cut, takes_on, goes_into, Values, Spells, no_symbol, a_rule, a_piece, a_place, a_name, a_magnitude, a_placed_magnitude, a_quoted}
+use Rattle.fir_grammar.specs.Grammar.{Terminal, Symbol, A, Rule, Tree, Derives, done, Front, cut, takes_on, goes_into, Values, Spells, no_symbol, a_rule, a_piece, a_place, a_name, a_magnitude, a_placed_magnitude, a_quoted, a_format}
 use Rattle.fir_grammar.specs.Reading.{part, CannotBeginAll, HasRead, IsRefused, no_memory, at_bad_piece, at_deep_piece, Reads, SpellsLongest, ReadsLongest}
 use Rattle.fir_grammar.proofs.Fronts.{Derives-front, spelled_derives}
 use Rattle.fir_grammar.proofs.Unique.{one_spelling}
@@ -56,13 +56,13 @@ cannot_begin (s ∷ ss) = (record { none = λ p ps h f. elim f [ ] }, cannot_beg
 
 -- what is spelled is the spelling of what was taken, whatever stands behind it
 
-record Taken (text : List ℕ) (ss : List Symbol) (ls rest : List Laid) (names : List (List ℕ)) (vs : Values ss) (after : List (List ℕ)) : Type 0 where
+record Taken (major : ℕ) (text : List ℕ) (ss : List Symbol) (ls rest : List Laid) (names : List (List ℕ)) (vs : Values ss) (after : List (List ℕ)) : Type 0 where
   taken : List Laid
   is : ls ≡ taken ++ rest
-  spelled : (others : List Laid) → Spells text ss (taken ++ others) names vs others after
+  spelled : (others : List Laid) → Spells major text ss (taken ++ others) names vs others after
 
-module _ (text : List ℕ) where
-  split : {ss : List Symbol} {ls rest : List Laid} {names after : List (List ℕ)} {vs : Values ss} → Spells text ss ls names vs rest after → Taken text ss ls rest names vs after
+module _ (major : ℕ) (text : List ℕ) where
+  split : {ss : List Symbol} {ls rest : List Laid} {names after : List (List ℕ)} {vs : Values ss} → Spells major text ss ls names vs rest after → Taken major text ss ls rest names vs after
   split no_symbol = record { taken = []; is = refl; spelled = λ others. no_symbol }
   split (a_rule {ss} {body} {names} {between} {after} {ws} {vs} case inner more) =
       let a = split inner in
@@ -78,17 +78,18 @@ module _ (text : List ℕ) where
   split (a_magnitude {token} h is more) = let b = split more in record { taken = Item token ∷ b.taken; is = ap (λ (m : List Laid). Item token ∷ m) b.is; spelled = λ others. a_magnitude h is (b.spelled others) }
   split (a_placed_magnitude {token} h is more) =
       let b = split more in record { taken = Item token ∷ b.taken; is = ap (λ (m : List Laid). Item token ∷ m) b.is; spelled = λ others. a_placed_magnitude h is (b.spelled others) }
+  split (a_format {token} h is more) = let b = split more in record { taken = Item token ∷ b.taken; is = ap (λ (m : List Laid). Item token ∷ m) b.is; spelled = λ others. a_format h is (b.spelled others) }
   split (a_quoted {token} h is more) = let b = split more in record { taken = Item token ∷ b.taken; is = ap (λ (m : List Laid). Item token ∷ m) b.is; spelled = λ others. a_quoted h is (b.spelled others) }
 
   -- the part of a list that was taken
   part_spelled : {ss : List Symbol} (list : List Laid) (i j : ℕ) {names after : List (List ℕ)} {vs : Values ss} → i ≤ j → j ≤ length list
-      → Spells text ss (drop i list) names vs (drop j list) after → Spells text ss (take (j - i) (drop i list)) names vs [] after
+      → Spells major text ss (drop i list) names vs (drop j list) after → Spells major text ss (take (j - i) (drop i list)) names vs [] after
   part_spelled {ss} list i j {names} {after} {vs} onward within s =
       let t = split s in
       let longer : length (drop i list) ≡ length t.taken + length (drop j list) = ap (λ (m : List Laid). length m) t.is ∙ length-append t.taken (drop j list) in
       let many : length t.taken ≡ j - i = omega (arith, onward, within, longer, length-drop i list, length-drop j list) in
       let same : t.taken ≡ take (j - i) (drop i list) = taken_is (drop i list) t.taken (drop j list) (j - i) t.is many in
-      subst (λ (m : List Laid). Spells text ss m names vs [] after) (append_nil t.taken ∙ same) (t.spelled [])
+      subst (λ (m : List Laid). Spells major text ss m names vs [] after) (append_nil t.taken ∙ same) (t.spelled [])
     where
       taken_is : (xs ys zs : List Laid) (n : ℕ) → xs ≡ ys ++ zs → length ys ≡ n → ys ≡ take n xs
       taken_is xs ys zs n e l = rw (e, ← l) (grind (arith, common_steps))
@@ -101,22 +102,22 @@ module _ (text : List ℕ) where
   pieces-part list i j h = rw (part-taken (pieces_of text list) i j h) (sym (ap (λ (ps : List Piece). take (j - i) ps) (drop-map (piece_of text) i list) ∙ take-map (piece_of text) (j - i) (drop i list)))
 
   rule_derives : {r : Rule} (list : List Laid) (i j : ℕ) {names after : List (List ℕ)} {vs : Values (A r ∷ [])} → i ≤ j → j ≤ length list
-      → Spells text (A r ∷ []) (drop i list) names vs (drop j list) after → Derives (A r ∷ []) (part (pieces_of text list) i j)
+      → Spells major text (A r ∷ []) (drop i list) names vs (drop j list) after → Derives (A r ∷ []) (part (pieces_of text list) i j)
   rule_derives list i j onward within s = rw (pieces-part list i j onward) at (spelled_derives text (part_spelled list i j onward within s) done)
 
   -- two spellings of one part
   one_part : {r : Rule} (list : List Laid) (i j : ℕ) {names after more : List (List ℕ)} {x y : Tree r} → i ≤ j → j ≤ length list → IsDistinct names
-      → Spells text (A r ∷ []) (drop i list) names (x, tt) (drop j list) after → Spells text (A r ∷ []) (drop i list) names (y, tt) (drop j list) more → (x ≡ y) × (after ≡ more)
+      → Spells major text (A r ∷ []) (drop i list) names (x, tt) (drop j list) after → Spells major text (A r ∷ []) (drop i list) names (y, tt) (drop j list) more → (x ≡ y) × (after ≡ more)
   one_part {r} list i j onward within distinct s t =
-      let one = one_spelling text [] (cannot_begin _, tt) distinct (part_spelled list i j onward within s) done (part_spelled list i j onward within t) done in
+      let one = one_spelling major text [] (cannot_begin _, tt) distinct (part_spelled list i j onward within s) done (part_spelled list i j onward within t) done in
       (ap (λ (v : Values (A r ∷ [])). v.0) one.values, one.names)
 
-  module _ {r : Rule} {list : List Laid} {i k : ℕ} {names more : List (List ℕ)} {x : Tree r} (l : SpellsLongest (A r ∷ []) text list i names (x, tt) k more) where
+  module _ {r : Rule} {list : List Laid} {i k : ℕ} {names more : List (List ℕ)} {x : Tree r} (l : SpellsLongest major (A r ∷ []) text list i names (x, tt) k more) where
     derived : Derives (A r ∷ []) (part (pieces_of text list) i k)
     derived = rule_derives list i k l.onward l.within l.spelled
 
     -- a reader stands behind the tree
-    ends_there : {y : Tree r} {j : ℕ} {after : List (List ℕ)} → HasRead (A r ∷ []) text list i names (y, tt) j after → j ≡ k
+    ends_there : {y : Tree r} {j : ℕ} {after : List (List ℕ)} → HasRead major (A r ∷ []) text list i names (y, tt) j after → j ≡ k
     ends_there {y} {j} {after} h = ⊎_elim before behind (cases_lt k j)
       where
         before : k < j → j ≡ k
@@ -142,15 +143,15 @@ module _ (text : List ℕ) where
 
 -- the theorem, of what is read and of each answer
 
-pub answered_longest : (r : Rule) {text : List ℕ} {list : List Laid} {i j : ℕ} {names after : List (List ℕ)} {y : Tree r} → HasRead (A r ∷ []) text list i names (y, tt) j after
-    → ReadsLongest r text list i names (Ok y) j after
-answered_longest r {text} {list} {i} {j} {names} h x k more distinct l =
-    let same : j ≡ k = ends_there text l h in
-    let spelled : Spells text (A r ∷ []) (drop i list) names (x, tt) (drop j list) more = rw same l.spelled in
-    let one = one_part text list i j h.onward h.within distinct h.spelled spelled in
+pub answered_longest : (r : Rule) {major : ℕ} {text : List ℕ} {list : List Laid} {i j : ℕ} {names after : List (List ℕ)} {y : Tree r} → HasRead major (A r ∷ []) text list i names (y, tt) j after
+    → ReadsLongest major r text list i names (Ok y) j after
+answered_longest r {major} {text} {list} {i} {j} {names} h x k more distinct l =
+    let same : j ≡ k = ends_there major text l h in
+    let spelled : Spells major text (A r ∷ []) (drop i list) names (x, tt) (drop j list) more = rw same l.spelled in
+    let one = one_part major text list i j h.onward h.within distinct h.spelled spelled in
     (one.0, same, one.1)
 
-pub reads_longest : (r : Rule) (text : List ℕ) (list : List Laid) (i : ℕ) (names : List (List ℕ)) (result : Result (Tree r) ParseFault) (j : ℕ) (after : List (List ℕ))
-    → Reads r text list i names result j after → ReadsLongest r text list i names result j after
-reads_longest r text list i names (Ok y) j after h = answered_longest r h
-reads_longest r text list i names (Err fault) j after h = λ x k more distinct l. never_refused text l h
+pub reads_longest : (major : ℕ) (r : Rule) (text : List ℕ) (list : List Laid) (i : ℕ) (names : List (List ℕ)) (result : Result (Tree r) ParseFault) (j : ℕ) (after : List (List ℕ))
+    → Reads major r text list i names result j after → ReadsLongest major r text list i names result j after
+reads_longest major r text list i names (Ok y) j after h = answered_longest r h
+reads_longest major r text list i names (Err fault) j after h = λ x k more distinct l. never_refused major text l h

@@ -71,7 +71,7 @@ module _ (text : List ℕ) (list : List Laid) where
 
   -- a circuit that goes nowhere too deep has no fault
   circuit_front : (circuit : Circuit) (k : ℕ) → IsCircuit text list circuit → Front (A Text ∷ []) (take k (pieces_of text list))
-  circuit_front circuit k h = Derives-front k (spelled_derives text h.spelled done)
+  circuit_front circuit k h = Derives-front k (spelled_derives text h.spelled.spelled done)
 
   pub accepted : (circuit : Circuit) (f : ParseFault) → IsCircuit text list circuit → ((k : ℕ) → ¬ (IsDeepAt (pieces_of text list) k)) → FaultOf text list f → ⊥
   accepted circuit f h shallow (a_version l at bad number) = bad.here (circuit_front circuit (2 + 1) h)

@@ -1,5 +1,5 @@
 -- The fault of a laid list: its first piece that can't continue a text, or that goes too deep.
-use Rattle.std.specs.Prelude.{◌≡◌, ℕ, ◌+◌, ◌-◌, ◌<◌, ◌≤◌, ◌==◌, ◌||◌, ◌&&◌, nat_le, Bool, true, false, if◌then◌else◌, List, [], ◌∷◌, ◌++◌, length, take, fold, map, Contains, slice_get, Some, codes}
+use Rattle.std.specs.Prelude.{◌≡◌, ℕ, ◌+◌, ◌-◌, ◌<◌, ◌≤◌, ◌==◌, ◌||◌, ◌&&◌, nat_le, Bool, true, false, not, bytes_eq, if◌then◌else◌, List, [], ◌∷◌, ◌++◌, length, take, fold, map, Contains, slice_get, Some, codes}
 use Rattle.place_text.specs.declared.place.Place.{Place}
 use Rattle.place_text.specs.Places.{place}
 use Rattle.fir_lexer.specs.declared.token.TokenKind.TheVariants as kind
@@ -36,13 +36,23 @@ abbrev pub without_last : List ℕ → List ℕ
 without_last [] = []
 without_last (n ∷ outer) = outer
 
+-- the innermost open bracket closes; what stands outside of all stays
+abbrev pub closed : List ℕ → List ℕ
+closed [] = []
+closed (n ∷ []) = n ∷ []
+closed (n ∷ m ∷ outer) = m ∷ outer
+
+-- The bracket of an item isn't counted.
+abbrev pub is_item : List ℕ → Bool
+is_item bytes = bytes_eq bytes (codes "printf(") || bytes_eq bytes (codes "stop(")
+
 -- `.`, `[`, `(` and `{`, `]`, `)` and `}`, and all other marks
 abbrev pub past_mark : ℕ → Levels → Levels
 past_mark m at =
     if m == 46 then record { blocks = at.blocks; suffixes = with_suffix at.suffixes; dotted = true }
     else if m == 91 then record { blocks = at.blocks; suffixes = 0 ∷ with_suffix at.suffixes; dotted = false }
     else if (m == 40) || (m == 123) then record { blocks = at.blocks; suffixes = 0 ∷ at.suffixes; dotted = false }
-    else if (m == 93) || ((m == 41) || (m == 125)) then record { blocks = at.blocks; suffixes = without_last at.suffixes; dotted = false }
+    else if (m == 93) || ((m == 41) || (m == 125)) then record { blocks = at.blocks; suffixes = closed at.suffixes; dotted = false }
     else record { blocks = at.blocks; suffixes = at.suffixes; dotted = false }
 
 -- a name or digits: a field behind a `.`, else something new
@@ -53,7 +63,7 @@ abbrev pub past : Levels → Piece → Levels
 past at (A_token kind.Word bytes) = past_text at
 past at (A_token kind.Quoted bytes) = past_text at
 past at (A_token kind.Digits bytes) = past_text at
-past at (A_token kind.Call bytes) = record { blocks = at.blocks; suffixes = 0 ∷ at.suffixes; dotted = false }
+past at (A_token kind.Call bytes) = record { blocks = at.blocks; suffixes = if is_item bytes then at.suffixes else 0 ∷ at.suffixes; dotted = false }
 past at (A_token kind.Text bytes) = record { blocks = at.blocks; suffixes = at.suffixes; dotted = false }
 past at (A_token kind.Arrow bytes) = record { blocks = at.blocks; suffixes = at.suffixes; dotted = false }
 past at (A_token (kind.Mark m) bytes) = past_mark m at
@@ -72,7 +82,7 @@ most = 128
 -- A piece goes too deep here: it opens a block or a bracket (`(`, `[`, `{` or a word with its `(`) where the most are open,
 -- or it is a `.` or `[` where its reference or type has the most.
 abbrev pub is_deep : Levels → Piece → Bool
-is_deep at (A_token kind.Call bytes) = nat_le most (length at.suffixes - 1)
+is_deep at (A_token kind.Call bytes) = not (is_item bytes) && nat_le most (length at.suffixes - 1)
 is_deep at (A_token (kind.Mark m) bytes) =
     (((m == 40) || ((m == 91) || (m == 123))) && nat_le most (length at.suffixes - 1)) || (((m == 46) || (m == 91)) && nat_le most (last_suffixes at.suffixes))
 is_deep at A_block_opens = nat_le most at.blocks
@@ -90,12 +100,12 @@ pub record IsShallow (pieces : List Piece) (i k : ℕ) : Type 0 where
 -- the words of constructs that aren't supported
 abbrev pub listed_words : List (List ℕ)
 listed_words =
-    codes "extmodule" ∷ codes "intmodule" ∷ codes "public" ∷ codes "parameter" ∷ codes "defname" ∷ codes "intrinsic" ∷ codes "layer" ∷ codes "layerblock"
+    codes "extmodule" ∷ codes "intmodule" ∷ codes "parameter" ∷ codes "defname" ∷ codes "intrinsic" ∷ codes "layer" ∷ codes "layerblock"
     ∷ codes "group" ∷ codes "declgroup" ∷ codes "type" ∷ codes "option" ∷ codes "Probe" ∷ codes "RWProbe" ∷ codes "probe" ∷ codes "rwprobe" ∷ codes "read"
     ∷ codes "define" ∷ codes "force" ∷ codes "force_initial" ∷ codes "release" ∷ codes "release_initial" ∷ codes "Analog" ∷ codes "attach" ∷ codes "match"
     ∷ codes "const" ∷ codes "validif" ∷ codes "asClock" ∷ codes "assert" ∷ codes "assume" ∷ codes "cover" ∷ codes "cmem" ∷ codes "smem" ∷ codes "infer"
     ∷ codes "mport" ∷ codes "write" ∷ codes "rdwr" ∷ codes "propassign" ∷ codes "Integer" ∷ codes "String" ∷ codes "class" ∷ codes "object"
-    ∷ codes "AsyncReset" ∷ codes "asAsyncReset" ∷ codes "printf" ∷ codes "stop" ∷ []
+    ∷ codes "AsyncReset" ∷ codes "asAsyncReset" ∷ []
 
 -- the vertical bar, or a word of the list, with a `(` directly behind it or without
 abbrev pub IsListed : Piece → Type 0

@@ -2,14 +2,14 @@
 -- rules derive, and which lists are fronts of what they derive. A piece is a token with its kind and bytes, the end of a
 -- line, the beginning or the end of a block, or the end of the text.
 use Prim.Native.String.{String}
-use Rattle.std.specs.Prelude.{◌≡◌, ◌≢◌, ℕ, suc, ◌-◌, Bool, false, true, List, [], ◌∷◌, ◌++◌, length, take, drop, codes, Option, Some, None}
+use Rattle.std.specs.Prelude.{◌≡◌, ◌≢◌, ◌⊎◌, ℕ, suc, ◌-◌, Bool, false, true, List, [], ◌∷◌, ◌++◌, length, take, drop, codes, Option, Some, None}
 use Rattle.bit_words.specs.Numbers.{letter, WritesDigits, IsMagnitude}
 use Rattle.bit_words.specs.declared.number.Base.{Base}
 use Rattle.bit_words.specs.declared.number.Base.TheVariants.{Decimal}
 use Rattle.fir_lexer.specs.declared.token.TokenKind.TheVariants as kind
 use Rattle.fir_layout.specs.Pieces.{Piece, A_token, A_line_end, A_block_opens, A_block_closes, The_end, bytes_of, piece_of}
 use Rattle.prim_ops.specs.declared.operation.PrimOp.{PrimOp}
-use Rattle.prim_ops.specs.Operations.{name_of, arity_of, IsWritten}
+use Rattle.prim_ops.specs.Operations.{name_of, arity_of, IsWritten, of_version}
 use Rattle.bit_words.specs.declared.number.Number.{Number}
 use Rattle.bit_words.specs.declared.value.Kind.TheVariants as sign
 use Rattle.place_text.specs.declared.place.Place.{Place}
@@ -29,15 +29,19 @@ use Rattle.fir_types.specs.declared.memory.Under.{Under}
 use Rattle.fir_types.specs.declared.memory.Under.TheVariants as under
 use Rattle.fir_types.specs.declared.memory.PortMode.TheVariants as mode
 use Rattle.fir_tree.specs.declared.circuit.Circuit.{Circuit}
-use Rattle.fir_tree.specs.declared.circuit.Module.{Module as TheModule}
-use Rattle.fir_tree.specs.declared.stmt.Stmt.{Stmt}
 use Rattle.fir_tree.specs.declared.stmt.Stmt.TheVariants as stmt
-use Rattle.fir_tree.specs.declared.stmt.Arm.{Arm}
 use Rattle.fir_tree.specs.declared.expr.Expr.{Expr}
 use Rattle.fir_tree.specs.declared.expr.Form.TheVariants as form
 use Rattle.fir_tree.specs.declared.expr.Suffix.{Suffix}
 use Rattle.fir_tree.specs.declared.expr.Suffix.TheVariants as suffix
 use Rattle.fir_tree.specs.Numbered.{AddsName}
+use Rattle.fir_tree.specs.declared.print.Piece.{Piece as PrintPiece}
+use Rattle.item_lines.specs.declared.line.Line.{Line}
+use Rattle.item_lines.specs.declared.line.Line.TheVariants as entry
+use Rattle.item_lines.specs.declared.line.LineArm.{LineArm}
+use Rattle.item_lines.specs.declared.line.LineModule.{LineModule}
+use Rattle.item_lines.specs.Formats.{IsQuotedFormat, shows}
+use Rattle.item_lines.specs.Items.{modules_of}
 
 -- what the grammar asks of one piece
 
@@ -47,7 +51,8 @@ pub data Terminal : Type 0 where
   A_name : Terminal  -- any word, or a name between backquotes
   A_field : Terminal  -- a name, or digits
   A_number : Terminal  -- digits that are a number
-  Three : Terminal  -- digits that are the number 3, in any base
+  A_major : Terminal  -- digits that are the number 3 or 4, in any base
+  A_format : ℕ → Terminal  -- a string that is a format with as many values to show
   A_quoted_number : Terminal  -- a string of quoted number form
   The_mark : ℕ → Terminal
   The_arrow : Terminal
@@ -72,7 +77,8 @@ Takes A_field (A_token kind.Word bytes) = Unit {0}
 Takes A_field (A_token kind.Quoted bytes) = Unit {0}
 Takes A_field (A_token kind.Digits bytes) = Unit {0}
 Takes A_number (A_token kind.Digits bytes) = (n : ℕ) × IsMagnitude bytes n
-Takes Three (A_token kind.Digits bytes) = IsMagnitude bytes 3
+Takes A_major (A_token kind.Digits bytes) = IsMagnitude bytes 3 ⊎ IsMagnitude bytes 4
+Takes (A_format n) (A_token kind.Text bytes) = (pieces : List PrintPiece) × IsQuotedFormat bytes pieces × (shows pieces ≡ n)
 Takes A_quoted_number (A_token kind.Text bytes) = (negative : Bool) × (n : ℕ) × IsQuotedNumber bytes negative n
 Takes (The_mark m) (A_token (kind.Mark n) bytes) = n ≡ m
 Takes The_arrow (A_token kind.Arrow bytes) = Unit {0}
@@ -101,6 +107,8 @@ pub data Rule : Type 0 where
   Field : Rule
   Statements : Rule
   Statement : Rule
+  Printed : Rule
+  Item_end : Rule
   Block : Rule
   Branches : Rule
   Memory_lines : Rule
@@ -121,6 +129,7 @@ pub data Kept : Type 0 where
   Its_magnitude : Kept
   Its_place_and_magnitude : Kept
   Its_number : Kept
+  Its_pieces : Kept
 
 pub data Symbol : Type 0 where
   Is : Kept → Terminal → Symbol
@@ -170,15 +179,16 @@ close_block = Is Nothing Closes
 
 -- The cases of the rules, in the order of the rules. A name is a word or a quoted name; EOL is the end of a line.
 pub data IsCase : Rule → List Symbol → Type 0 where
-  -- text = "FIRRTL" "version" 3 "." num "." num EOL "circuit" name ":" EOL [Open {module} Close] End
-  a_text : IsCase Text (word "FIRRTL" ∷ word "version" ∷ Is Nothing Three ∷ mark 46 ∷ Is Nothing A_number ∷ mark 46 ∷ Is Nothing A_number ∷ line_end
+  -- text = "FIRRTL" "version" (3 or 4) "." num "." num EOL "circuit" name ":" EOL [Open {module} Close] End
+  a_text : IsCase Text (word "FIRRTL" ∷ word "version" ∷ Is Its_magnitude A_major ∷ mark 46 ∷ Is Nothing A_number ∷ mark 46 ∷ Is Nothing A_number ∷ line_end
       ∷ word "circuit" ∷ name ∷ colon ∷ line_end ∷ A Circuit_body ∷ Is Nothing Ends ∷ [])
   no_modules : IsCase Circuit_body []
   some_modules : IsCase Circuit_body (open_block ∷ A Modules ∷ [])
   last_module : IsCase Modules (close_block ∷ [])
   next_module : IsCase Modules (A Module ∷ A Modules ∷ [])
-  -- module = "module" name ":" EOL [Open {port EOL} {stmt} Close]
+  -- module = ["public"] "module" name ":" EOL [Open {port EOL} {stmt} Close]
   a_module : IsCase Module (word "module" ∷ name ∷ colon ∷ line_end ∷ A Module_body ∷ [])
+  a_public_module : IsCase Module (word "public" ∷ word "module" ∷ name ∷ colon ∷ line_end ∷ A Module_body ∷ [])
   no_module_body : IsCase Module_body []
   a_module_body : IsCase Module_body (open_block ∷ A Ports ∷ [])
   next_port : IsCase Ports (A Port ∷ line_end ∷ A Ports ∷ [])
@@ -225,6 +235,13 @@ pub data IsCase : Rule → List Symbol → Type 0 where
   a_when : IsCase Statement (word "when" ∷ A Expression ∷ colon ∷ line_end ∷ A Block ∷ A Branches ∷ [])
   -- | "skip" EOL
   a_skip : IsCase Statement (word_at "skip" ∷ line_end ∷ [])
+  -- | printf( expr expr format, as many expr as it shows, ")" [":" name] EOL
+  a_print : IsCase Statement (call_at "printf" ∷ A Expression ∷ A Expression ∷ A Printed ∷ A Item_end ∷ [])
+  printed : (n : ℕ) → IsCase Printed (Is Its_pieces (A_format n) ∷ A (Expressions n) ∷ close ∷ [])
+  -- | stop( expr expr num ")" [":" name] EOL
+  a_stop : IsCase Statement (call_at "stop" ∷ A Expression ∷ A Expression ∷ number ∷ close ∷ A Item_end ∷ [])
+  without_label : IsCase Item_end (line_end ∷ [])
+  with_label : IsCase Item_end (colon ∷ Is Nothing A_name ∷ line_end ∷ [])
   no_branch : IsCase Branches []
   else_when : IsCase Branches (word "else" ∷ word "when" ∷ A Expression ∷ colon ∷ line_end ∷ A Block ∷ A Branches ∷ [])
   else_ : IsCase Branches (word "else" ∷ colon ∷ line_end ∷ A Block ∷ [])
@@ -290,12 +307,12 @@ pub data Front : List Symbol → List Piece → Type 0 where
 
 -- what is built for each rule
 abbrev pub Tree : Rule → Type 0
-Tree Text = Name × List TheModule
-Tree Circuit_body = List TheModule
-Tree Modules = List TheModule
-Tree Module = TheModule
-Tree Module_body = List ModulePort × List Stmt
-Tree Ports = List ModulePort × List Stmt
+Tree Text = ℕ × (Name × List LineModule)
+Tree Circuit_body = List LineModule
+Tree Modules = List LineModule
+Tree Module = LineModule
+Tree Module_body = List ModulePort × List Line
+Tree Ports = List ModulePort × List Line
 Tree Port = ModulePort
 Tree Type_of = FirType
 Tree Lengths = List ℕ
@@ -303,10 +320,12 @@ Tree Base_type = FirType
 Tree Width = Option ℕ
 Tree Fields = List BundleField
 Tree Field = BundleField
-Tree Statements = List Stmt
-Tree Statement = Stmt
-Tree Block = List Stmt
-Tree Branches = List Arm × List Stmt
+Tree Statements = List Line
+Tree Statement = Line
+Tree Printed = List PrintPiece × List Expr
+Tree Item_end = Unit {0}
+Tree Block = List Line
+Tree Branches = List LineArm × List Line
 Tree Memory_lines = List MemLine
 Tree Memory_line = MemLine
 Tree Under_write = Under
@@ -326,6 +345,7 @@ Values (Is Its_name s ∷ ss) = Name × Values ss
 Values (Is Its_magnitude s ∷ ss) = ℕ × Values ss
 Values (Is Its_place_and_magnitude s ∷ ss) = Place × (ℕ × Values ss)
 Values (Is Its_number s ∷ ss) = Number × Values ss
+Values (Is Its_pieces s ∷ ss) = List PrintPiece × Values ss
 Values (A r ∷ ss) = Tree r × Values ss
 
 -- a base type, and vectors of it with these lengths, the innermost first
@@ -333,83 +353,89 @@ abbrev pub vectors : FirType → List ℕ → FirType
 vectors typ [] = typ
 vectors typ (n ∷ ns) = vectors (record { place = typ.place; shape = shape.Vector typ n }) ns
 
--- The tree of each case, in the order of the cases. A type and an expression have the place of their first piece.
-abbrev pub tree : {r : Rule} {body : List Symbol} → IsCase r body → Values body → Tree r
-tree a_text (main, (modules, _)) = (main, modules)
-tree no_modules _ = []
-tree some_modules (modules, _) = modules
-tree last_module _ = []
-tree next_module (first, (others, _)) = first ∷ others
-tree a_module (name, (body, _)) = record { name = name; ports = body.0; body = body.1 }
-tree no_module_body _ = ([], [])
-tree a_module_body (body, _) = body
-tree next_port (port, (body, _)) = (port ∷ body.0, body.1)
-tree last_port (statements, _) = ([], statements)
-tree an_input (name, (typ, _)) = record { output = false; name = name; typ = typ }
-tree an_output (name, (typ, _)) = record { output = true; name = name; typ = typ }
-tree a_type (base, (lengths, _)) = vectors base lengths
-tree last_length _ = []
-tree next_length (n, (ns, _)) = n ∷ ns
-tree an_unsigned (at, (width, _)) = record { place = at; shape = shape.Unsigned width }
-tree a_signed (at, (width, _)) = record { place = at; shape = shape.Signed width }
-tree a_clock (at, _) = record { place = at; shape = shape.Clock }
-tree a_reset (at, _) = record { place = at; shape = shape.Reset }
-tree a_bundle (at, (fields, _)) = record { place = at; shape = shape.Bundle fields }
-tree no_width _ = None
-tree a_width (n, _) = Some n
-tree last_field _ = []
-tree next_field (first, (others, _)) = first ∷ others
-tree plain_field (name, (typ, _)) = record { flip = false; name = name; typ = typ }
-tree flipped_field (name, (typ, _)) = record { flip = true; name = name; typ = typ }
-tree last_statement _ = []
-tree next_statement (first, (others, _)) = first ∷ others
-tree a_wire (name, (typ, _)) = stmt.Wire name typ
-tree a_register (name, (typ, (clock, _))) = stmt.Reg name typ clock
-tree a_reset_register (name, (typ, (clock, (reset, (init, _))))) = stmt.RegReset name typ clock reset init
-tree a_memory (name, (lines, _)) = stmt.Mem (record { name = name; lines = lines })
-tree an_instance (name, (of, _)) = stmt.Inst name of
-tree a_node (name, (value, _)) = stmt.Node name value
-tree a_connect (driven, (source, _)) = stmt.Connect driven source
-tree an_invalidate (driven, _) = stmt.Invalidate driven
-tree a_when (condition, (body, (branches, _))) = stmt.When (record { condition = condition; body = body } ∷ branches.0) branches.1
-tree a_skip (at, _) = stmt.Skip at
-tree no_branch _ = ([], [])
-tree else_when (condition, (body, (branches, _))) = (record { condition = condition; body = body } ∷ branches.0, branches.1)
-tree else_ (body, _) = ([], body)
-tree no_block _ = []
-tree a_block (statements, _) = statements
-tree last_memory_line _ = []
-tree next_memory_line (first, (others, _)) = first ∷ others
-tree a_data_type (at, (typ, _)) = line.Element at typ
-tree a_depth (at, (n, _)) = line.Depth at n
-tree a_read_latency (at, (n, _)) = line.ReadLatency at n
-tree a_write_latency (at, (n, _)) = line.WriteLatency at n
-tree a_read_under_write (at, (what, _)) = line.ReadUnder at what
-tree under_old _ = under.Old
-tree under_new _ = under.New
-tree under_undefined _ = under.Undefined
-tree a_reader (at, (name, _)) = line.MemPort at mode.Reader name
-tree a_writer (at, (name, _)) = line.MemPort at mode.Writer name
-tree a_readwriter (at, (name, _)) = line.MemPort at mode.ReadWriter name
-tree a_reference (expr, _) = expr
-tree a_mux (at, (operands, _)) = record { place = at; form = form.Mux operands }
-tree (an_operation prim written) (at, (operands, (parameters, _))) = record { place = at; form = form.Prim prim operands parameters }
-tree no_more_expressions _ = []
-tree (one_more_expression n) (first, (others, _)) = first ∷ others
-tree no_more_numbers _ = []
-tree (one_more_number n) (first, (others, _)) = first ∷ others
-tree a_component (name, (suffixes, _)) = record { place = name.place; form = form.Ref name suffixes }
-tree no_suffix _ = []
-tree a_field_suffix (name, (others, _)) = suffix.Field name ∷ others
-tree an_element_suffix (at, (number_at, (n, (others, _)))) = suffix.At at number_at n ∷ others
-tree an_index_suffix (at, (index, (others, _))) = suffix.Index at index ∷ others
-tree an_unsigned_literal (at, (n, _)) = record { place = at; form = form.Literal sign.Unsigned None n }
-tree a_signed_literal (at, (n, _)) = record { place = at; form = form.Literal sign.Signed None n }
-tree a_wide_unsigned_literal (at, (width, (n, _))) = record { place = at; form = form.Literal sign.Unsigned (Some width) n }
-tree a_wide_signed_literal (at, (width, (n, _))) = record { place = at; form = form.Literal sign.Signed (Some width) n }
-tree a_plain_integer (n, _) = record { negative = false; magnitude = n }
-tree a_negative_integer (n, _) = record { negative = true; magnitude = n }
-tree a_quoted_integer (n, _) = n
+-- The tree of each case in a text of this version, in the order of the cases. A type and an expression have the place of their first piece.
+abbrev pub tree : ℕ → {r : Rule} {body : List Symbol} → IsCase r body → Values body → Tree r
+tree major a_text (version, (main, (modules, _))) = (version, (main, modules))
+tree major no_modules _ = []
+tree major some_modules (modules, _) = modules
+tree major last_module _ = []
+tree major next_module (first, (others, _)) = first ∷ others
+tree major a_module (name, (body, _)) = record { name = name; ports = body.0; body = body.1 }
+tree major a_public_module (name, (body, _)) = record { name = name; ports = body.0; body = body.1 }
+tree major no_module_body _ = ([], [])
+tree major a_module_body (body, _) = body
+tree major next_port (port, (body, _)) = (port ∷ body.0, body.1)
+tree major last_port (statements, _) = ([], statements)
+tree major an_input (name, (typ, _)) = record { output = false; name = name; typ = typ }
+tree major an_output (name, (typ, _)) = record { output = true; name = name; typ = typ }
+tree major a_type (base, (lengths, _)) = vectors base lengths
+tree major last_length _ = []
+tree major next_length (n, (ns, _)) = n ∷ ns
+tree major an_unsigned (at, (width, _)) = record { place = at; shape = shape.Unsigned width }
+tree major a_signed (at, (width, _)) = record { place = at; shape = shape.Signed width }
+tree major a_clock (at, _) = record { place = at; shape = shape.Clock }
+tree major a_reset (at, _) = record { place = at; shape = shape.Reset }
+tree major a_bundle (at, (fields, _)) = record { place = at; shape = shape.Bundle fields }
+tree major no_width _ = None
+tree major a_width (n, _) = Some n
+tree major last_field _ = []
+tree major next_field (first, (others, _)) = first ∷ others
+tree major plain_field (name, (typ, _)) = record { flip = false; name = name; typ = typ }
+tree major flipped_field (name, (typ, _)) = record { flip = true; name = name; typ = typ }
+tree major last_statement _ = []
+tree major next_statement (first, (others, _)) = first ∷ others
+tree major a_wire (name, (typ, _)) = entry.Plain (stmt.Wire name typ)
+tree major a_register (name, (typ, (clock, _))) = entry.Plain (stmt.Reg name typ clock)
+tree major a_reset_register (name, (typ, (clock, (reset, (init, _))))) = entry.Plain (stmt.RegReset name typ clock reset init)
+tree major a_memory (name, (lines, _)) = entry.Plain (stmt.Mem (record { name = name; lines = lines }))
+tree major an_instance (name, (of, _)) = entry.Plain (stmt.Inst name of)
+tree major a_node (name, (value, _)) = entry.Plain (stmt.Node name value)
+tree major a_connect (driven, (source, _)) = entry.Plain (stmt.Connect driven source)
+tree major an_invalidate (driven, _) = entry.Plain (stmt.Invalidate driven)
+tree major a_when (condition, (body, (branches, _))) = entry.Branch (record { condition = condition; body = body } ∷ branches.0) branches.1
+tree major a_skip (at, _) = entry.Plain (stmt.Skip at)
+tree major a_print (at, (clock, (condition, (what, _)))) = entry.Print at clock condition what.0 what.1
+tree major (printed n) (pieces, (arguments, _)) = (pieces, arguments)
+tree major a_stop (at, (clock, (condition, (code, _)))) = entry.Stop at clock condition code
+tree major without_label _ = tt
+tree major with_label _ = tt
+tree major no_branch _ = ([], [])
+tree major else_when (condition, (body, (branches, _))) = (record { condition = condition; body = body } ∷ branches.0, branches.1)
+tree major else_ (body, _) = ([], body)
+tree major no_block _ = []
+tree major a_block (statements, _) = statements
+tree major last_memory_line _ = []
+tree major next_memory_line (first, (others, _)) = first ∷ others
+tree major a_data_type (at, (typ, _)) = line.Element at typ
+tree major a_depth (at, (n, _)) = line.Depth at n
+tree major a_read_latency (at, (n, _)) = line.ReadLatency at n
+tree major a_write_latency (at, (n, _)) = line.WriteLatency at n
+tree major a_read_under_write (at, (what, _)) = line.ReadUnder at what
+tree major under_old _ = under.Old
+tree major under_new _ = under.New
+tree major under_undefined _ = under.Undefined
+tree major a_reader (at, (name, _)) = line.MemPort at mode.Reader name
+tree major a_writer (at, (name, _)) = line.MemPort at mode.Writer name
+tree major a_readwriter (at, (name, _)) = line.MemPort at mode.ReadWriter name
+tree major a_reference (expr, _) = expr
+tree major a_mux (at, (operands, _)) = record { place = at; form = form.Mux operands }
+tree major (an_operation prim written) (at, (operands, (parameters, _))) = record { place = at; form = form.Prim (of_version major prim) operands parameters }
+tree major no_more_expressions _ = []
+tree major (one_more_expression n) (first, (others, _)) = first ∷ others
+tree major no_more_numbers _ = []
+tree major (one_more_number n) (first, (others, _)) = first ∷ others
+tree major a_component (name, (suffixes, _)) = record { place = name.place; form = form.Ref name suffixes }
+tree major no_suffix _ = []
+tree major a_field_suffix (name, (others, _)) = suffix.Field name ∷ others
+tree major an_element_suffix (at, (number_at, (n, (others, _)))) = suffix.At at number_at n ∷ others
+tree major an_index_suffix (at, (index, (others, _))) = suffix.Index at index ∷ others
+tree major an_unsigned_literal (at, (n, _)) = record { place = at; form = form.Literal sign.Unsigned None n }
+tree major a_signed_literal (at, (n, _)) = record { place = at; form = form.Literal sign.Signed None n }
+tree major a_wide_unsigned_literal (at, (width, (n, _))) = record { place = at; form = form.Literal sign.Unsigned (Some width) n }
+tree major a_wide_signed_literal (at, (width, (n, _))) = record { place = at; form = form.Literal sign.Signed (Some width) n }
+tree major a_plain_integer (n, _) = record { negative = false; magnitude = n }
+tree major a_negative_integer (n, _) = record { negative = true; magnitude = n }
+tree major a_quoted_integer (n, _) = n
 
 -- where a part of the laid list begins, as an offset into the text
 abbrev pub start_of : Laid → ℕ
@@ -426,11 +452,11 @@ name_in _ bytes = bytes
 
 -- From the first list the symbols are spelled up to the second, and give these values. The names are numbered in the order
 -- of their first use: those used before, then those used after it.
-module _ (text : List ℕ) where
+module _ (major : ℕ) (text : List ℕ) where
   pub data Spells : (ss : List Symbol) → List Laid → List (List ℕ) → Values ss → List Laid → List (List ℕ) → Type 0 where
     no_symbol : {ls : List Laid} {names : List (List ℕ)} → Spells [] ls names tt ls names
     a_rule : {r : Rule} {ss : List Symbol} {body : List Symbol} {ls mid rest : List Laid} {names between after : List (List ℕ)} {ws : Values body} {vs : Values ss}
-        → (case : IsCase r body) → Spells body ls names ws mid between → Spells ss mid between vs rest after → Spells (A r ∷ ss) ls names (tree case ws, vs) rest after
+        → (case : IsCase r body) → Spells body ls names ws mid between → Spells ss mid between vs rest after → Spells (A r ∷ ss) ls names (tree major case ws, vs) rest after
     a_piece : {s : Terminal} {ss : List Symbol} {l : Laid} {ls rest : List Laid} {names after : List (List ℕ)} {vs : Values ss}
         → Takes s (piece_of text l) → Spells ss ls names vs rest after → Spells (Is Nothing s ∷ ss) (l ∷ ls) names vs rest after
     a_place : {s : Terminal} {ss : List Symbol} {l : Laid} {ls rest : List Laid} {names after : List (List ℕ)} {vs : Values ss}
@@ -447,12 +473,28 @@ module _ (text : List ℕ) where
     a_quoted : {s : Terminal} {ss : List Symbol} {token : Token} {ls rest : List Laid} {names after : List (List ℕ)} {vs : Values ss} {n : Number}
         → Takes s (piece_of text (laid.Item token)) → IsQuotedNumber (bytes_of text token) n.negative n.magnitude → Spells ss ls names vs rest after
         → Spells (Is Its_number s ∷ ss) (laid.Item token ∷ ls) names (n, vs) rest after
+    a_format : {s : Terminal} {ss : List Symbol} {token : Token} {ls rest : List Laid} {names after : List (List ℕ)} {vs : Values ss} {pieces : List PrintPiece}
+        → Takes s (piece_of text (laid.Item token)) → IsQuotedFormat (bytes_of text token) pieces → Spells ss ls names vs rest after
+        → Spells (Is Its_pieces s ∷ ss) (laid.Item token ∷ ls) names (pieces, vs) rest after
 
 -- the fields of memory ports, which have the first numbers
 abbrev pub field_names : List (List ℕ)
 field_names = codes "addr" ∷ codes "en" ∷ codes "clk" ∷ codes "data" ∷ codes "mask" ∷ codes "rdata" ∷ codes "wmode" ∷ codes "wdata" ∷ codes "wmask" ∷ []
 
+-- The laid list of a text is the spelling of these modules, read in its version. The texts of names are numbered first.
+pub record IsSpelled (text : List ℕ) (list : List Laid) (major : ℕ) (main : Name) (modules : List LineModule) (names : List (List ℕ)) : Type 0 where
+  pub spelled : Spells major text (A Text ∷ []) list field_names ((major, (main, modules)), tt) [] names
+
+-- the circuit of modules as a text writes them: each item stands for its statements
+abbrev pub circuit_of : Name → List LineModule → List (List ℕ) → Circuit
+circuit_of main modules names =
+    let made = modules_of 0 modules names in
+    record { names = made.1; main = main; modules = made.0.0; prints = made.0.1 }
+
 -- the laid list of a text is the spelling of the circuit
 pub record IsCircuit (text : List ℕ) (list : List Laid) (circuit : Circuit) : Type 0 where
-  pub spelled : Spells text (A Text ∷ []) list field_names ((circuit.main, circuit.modules), tt) [] circuit.names
-  pub none : circuit.prints ≡ []
+  pub major : ℕ
+  pub lines : List LineModule
+  pub names : List (List ℕ)
+  pub spelled : IsSpelled text list major circuit.main lines names
+  pub is : circuit ≡ circuit_of circuit.main lines names

@@ -83,12 +83,12 @@ pub record Stops (pieces : List Piece) (symbols : List Symbol) (i k : ℕ) : Typ
   pub wanting : ¬ (Derives symbols (part pieces i k))
 
 -- the symbols were read from i to j, and give these values
-pub record HasRead (symbols : List Symbol) (text : List ℕ) (list : List Laid) (i : ℕ) (names : List (List ℕ)) (vs : Values symbols) (j : ℕ) (after : List (List ℕ)) : Type 0 where
+pub record HasRead (major : ℕ) (symbols : List Symbol) (text : List ℕ) (list : List Laid) (i : ℕ) (names : List (List ℕ)) (vs : Values symbols) (j : ℕ) (after : List (List ℕ)) : Type 0 where
   pub onward : i ≤ j
   pub within : j ≤ length list
   pub leads : (rest : List Symbol) → IsSettled (symbols ++ rest) → Leads (pieces_of text list) (symbols ++ rest) i rest j
   pub shallow : IsShallow (pieces_of text list) i j
-  pub spelled : Spells text symbols (drop i list) names vs (drop j list) after
+  pub spelled : Spells major text symbols (drop i list) names vs (drop j list) after
 
 -- the symbols were refused: at the first piece that can't continue them, or at the first that goes too deep
 pub data IsRefused (symbols : List Symbol) (text : List ℕ) (list : List Laid) (i : ℕ) : ParseFault → Type 0 where
@@ -101,20 +101,20 @@ pub data IsRefused (symbols : List Symbol) (text : List ℕ) (list : List Laid) 
       → IsShallow (pieces_of text list) i k → IsDeepAt (pieces_of text list) k → IsRefused symbols text list i (TooDeep (place text (start_of l)))
 
 -- what a reader of one rule answers
-abbrev pub Reads : (r : Rule) → List ℕ → List Laid → ℕ → List (List ℕ) → Result (Tree r) ParseFault → ℕ → List (List ℕ) → Type 0
-Reads r text list i names (Ok x) j after = HasRead (A r ∷ []) text list i names (x, tt) j after
-Reads r text list i names (Err fault) j after = IsRefused (A r ∷ []) text list i fault
+abbrev pub Reads : ℕ → (r : Rule) → List ℕ → List Laid → ℕ → List (List ℕ) → Result (Tree r) ParseFault → ℕ → List (List ℕ) → Type 0
+Reads major r text list i names (Ok x) j after = HasRead major (A r ∷ []) text list i names (x, tt) j after
+Reads major r text list i names (Err fault) j after = IsRefused (A r ∷ []) text list i fault
 
 -- The list spells these values from i to j and no more: no piece goes too deep, and the one at j can't go on with them.
-pub record SpellsLongest (symbols : List Symbol) (text : List ℕ) (list : List Laid) (i : ℕ) (names : List (List ℕ)) (vs : Values symbols) (j : ℕ) (after : List (List ℕ)) : Type 0 where
+pub record SpellsLongest (major : ℕ) (symbols : List Symbol) (text : List ℕ) (list : List Laid) (i : ℕ) (names : List (List ℕ)) (vs : Values symbols) (j : ℕ) (after : List (List ℕ)) : Type 0 where
   pub onward : i ≤ j
   pub within : j ≤ length list
-  pub spelled : Spells text symbols (drop i list) names vs (drop j list) after
+  pub spelled : Spells major text symbols (drop i list) names vs (drop j list) after
   pub ends : ¬ (Front symbols (part (pieces_of text list) i (j + 1)))
   pub shallow : IsShallow (pieces_of text list) i j
 
 -- What a reader of one rule answers where the list spells a tree of it and no more: that tree, and it stands behind it. Only
 -- memory can be wanted.
-abbrev pub ReadsLongest : (r : Rule) → List ℕ → List Laid → ℕ → List (List ℕ) → Result (Tree r) ParseFault → ℕ → List (List ℕ) → Type 0
-ReadsLongest r text list i names result j after = (x : Tree r) (k : ℕ) (more : List (List ℕ)) → IsDistinct names → SpellsLongest (A r ∷ []) text list i names (x, tt) k more
+abbrev pub ReadsLongest : ℕ → (r : Rule) → List ℕ → List Laid → ℕ → List (List ℕ) → Result (Tree r) ParseFault → ℕ → List (List ℕ) → Type 0
+ReadsLongest major r text list i names result j after = (x : Tree r) (k : ℕ) (more : List (List ℕ)) → IsDistinct names → SpellsLongest major (A r ∷ []) text list i names (x, tt) k more
     → MatchResult result (λ given. (given ≡ x) × (j ≡ k) × (after ≡ more)) (λ fault. fault ≡ NoMemory)

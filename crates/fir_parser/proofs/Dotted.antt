@@ -1,5 +1,5 @@
 -- The version line.
-use Rattle.std.proofs.Common.{◌≡◌, ℕ, ◌+◌, ◌<◌, true, false, List, [], ◌∷◌, length, drop, refl, sym, ap, ◌∙◌, subst, arith, nat_le, slice_get, Some}
+use Rattle.std.proofs.Common.{◌≡◌, ◌⊎◌, inl, inr, ⊎_elim, ℕ, ◌+◌, ◌<◌, true, false, List, [], ◌∷◌, length, drop, refl, sym, ap, ◌∙◌, subst, arith, nat_le, slice_get, Some}
 use Rattle.std.proofs.lemmas.Option.{slice_get_within}
 use Rattle.bit_words.specs.Numbers.{IsMagnitude}
 use Rattle.fir_lexer.specs.declared.token.TokenKind.TheVariants as kind
@@ -11,16 +11,17 @@ use Rattle.fir_layout.specs.Pieces.{Piece, bytes_of, A_token, piece_of}
 use Rattle.place_text.specs.declared.place.Place.{Place}
 use Rattle.fir_grammar.proofs.Agreement.{magnitudes_agree}
 use Rattle.token_reader.specs.Parts.{IsNumberAt}
-use Rattle.token_reader.proofs.Composition.{one_at}
+use Rattle.token_reader.proofs.Composition.{one_at, read_piece}
 use Rattle.fir_tree.specs.declared.fault.ParseFault.{ParseFault}
 use Rattle.fir_tree.specs.declared.fault.ParseFault.TheVariants.{BadVersion}
-use Rattle.fir_grammar.specs.Grammar.{The_mark, A_number, Three, Takes, Nothing, Is, mark}
+use Rattle.fir_grammar.specs.Grammar.{The_mark, A_number, A_major, Takes, Nothing, Its_magnitude, Is, mark, no_symbol, a_magnitude}
 use Rattle.fir_grammar.specs.Faults.{Levels, past, is_deep, last_suffixes, with_suffix, most}
 use Rattle.fir_expr.specs.declared.reader.Reader.{Reader}
-use Rattle.fir_parser.specs.Taking.{here, blocks_at, StandsAt, HasTaken, Steps}
-use Rattle.fir_parser.specs.Expected.{Meets, NamesHere, VersionRefused, no_number, other_number}
-use Rattle.fir_parser.proofs.Steps.{Quiets, quiets, stands_next, here_next, left_tokens, last_afresh, taken_flat}
-use Rattle.fir_parser.proofs.Joins.{joins}
+use Rattle.line_parser.specs.Taking.{here, blocks_at, StandsAt, HasTaken, Steps}
+use Rattle.line_parser.specs.Expected.{Meets, NamesHere}
+use Rattle.fir_parser.specs.Heads.{VersionRefused, no_number, other_number}
+use Rattle.line_parser.proofs.Steps.{Quiets, quiets, stands_next, here_next, left_tokens, last_afresh, taken_flat}
+use Rattle.line_parser.proofs.Joins.{joins}
 
 dot_is : (p : Piece) → Takes (The_mark 46) p → (bytes : List ℕ) × (A_token (kind.Mark 46) bytes ≡ p)
 dot_is (A_token (kind.Mark m) bytes) h = (bytes, ap (λ (n : ℕ). A_token (kind.Mark n) bytes) (sym h))
@@ -95,31 +96,31 @@ module _ (old mid new : Reader) where
 pub number_met : (reader : Reader) (l : Laid) → slice_get reader.laid.now reader.at ≡ Some l → Takes A_number (piece_of reader.bytes.now l) → Meets A_number reader
 number_met reader l stands takes = record { laid = l; stands = stands; takes = takes }
 
--- the number 3 alone is Three
+-- the numbers 3 and 4 alone begin a version
 
-three_digits : (k : TokenKind) (bytes : List ℕ) (n : ℕ) → Takes A_number (A_token k bytes) → IsMagnitude bytes n → n ≡ 3 → Takes Three (A_token k bytes)
-three_digits kind.Digits bytes n h is e = rw e at is
-three_digits _ bytes n h is e = absurd h
+major_digits : (k : TokenKind) (bytes : List ℕ) (n : ℕ) → Takes A_number (A_token k bytes) → IsMagnitude bytes n → (n ≡ 3) ⊎ (n ≡ 4) → Takes A_major (A_token k bytes)
+major_digits kind.Digits bytes n h is e = ⊎_elim (λ three. inl (rw three at is)) (λ four. inr (rw four at is)) e
+major_digits _ bytes n h is e = absurd h
 
-digits_three : (k : TokenKind) (bytes : List ℕ) → Takes Three (A_token k bytes) → IsMagnitude bytes 3
-digits_three kind.Digits bytes h = h
-digits_three _ bytes h = absurd h
+pub takes_major : (text : List ℕ) (list : List Laid) (i : ℕ) (at : Place) (n : ℕ) → (h : IsNumberAt text list i at n) → (n ≡ 3) ⊎ (n ≡ 4) → Takes A_major (piece_of text (Item h.token))
+takes_major text list i at n h e = major_digits h.token.kind (bytes_of text h.token) n h.taken.takes h.is e
 
-pub takes_three : (text : List ℕ) (list : List Laid) (i : ℕ) (at : Place) (n : ℕ) → (h : IsNumberAt text list i at n) → n ≡ 3 → Takes Three (piece_of text (Item h.token))
-takes_three text list i at n h e = three_digits h.token.kind (bytes_of text h.token) n h.taken.takes h.is e
+pub major_is_number : (p : Piece) → Takes A_major p → Takes A_number p
+major_is_number (A_token kind.Digits bytes) h = ⊎_elim (λ three. (3, three)) (λ four. (4, four)) h
+major_is_number _ h = absurd h
 
-pub three_is_number : (p : Piece) → Takes Three p → Takes A_number p
-three_is_number (A_token kind.Digits bytes) h = (3, h)
-three_is_number _ h = absurd h
+major_known : (k : TokenKind) (bytes : List ℕ) (n : ℕ) → Takes A_major (A_token k bytes) → IsMagnitude bytes n → (n ≡ 3) ⊎ (n ≡ 4)
+major_known kind.Digits bytes n h is = ⊎_elim (λ three. inl (magnitudes_agree bytes n 3 is three)) (λ four. inr (magnitudes_agree bytes n 4 is four)) h
+major_known _ bytes n h is = absurd h
 
--- three stands there
+-- one of them stands there
 
-pub quiet_three : (at : Levels) (p : Piece) → Takes Three p → length at.suffixes ≡ 1 → at.dotted ≡ false → Quiets at p
-quiet_three at p h one no_dot = quiets at A_number p tt (three_is_number p h) one no_dot
+pub quiet_major : (at : Levels) (p : Piece) → Takes A_major p → length at.suffixes ≡ 1 → at.dotted ≡ false → Quiets at p
+quiet_major at p h one no_dot = quiets at A_number p tt (major_is_number p h) one no_dot
 
-pub three_fresh : (at : Levels) (p : Piece) → Takes Three p → at.dotted ≡ false → last_suffixes (past at p).suffixes ≡ 0
-three_fresh at (A_token kind.Digits bytes) h no_dot = rw no_dot (last_afresh at.suffixes)
-three_fresh at _ h no_dot = absurd h
+pub major_fresh : (at : Levels) (p : Piece) → Takes A_major p → at.dotted ≡ false → last_suffixes (past at p).suffixes ≡ 0
+major_fresh at (A_token kind.Digits bytes) h no_dot = rw no_dot (last_afresh at.suffixes)
+major_fresh at _ h no_dot = absurd h
 
 pub dot_taken : (old mid : Reader) → last_suffixes (here old).suffixes < most → (d : Meets (The_mark 46) old) → Steps old mid → HasTaken (mark 46 ∷ []) old mid tt
 dot_taken old mid few d step =
@@ -127,28 +128,39 @@ dot_taken old mid few d step =
     let deep : is_deep (here old) (piece_of old.bytes.now d.laid) ≡ false = subst (λ (x : Piece). is_deep (here old) x ≡ false) p.1 (below (last_suffixes (here old).suffixes) few) in
     taken_flat old mid d.laid (The_mark 46) d.stands d.takes deep step
 
-module _ (old new : Reader) (l : Laid) (stands : slice_get old.laid.now old.at ≡ Some l) (takes : Takes Three (piece_of old.bytes.now l)) (step : Steps old new) where
-  pub three_taken : StandsAt old → HasTaken (Is Nothing Three ∷ []) old new tt
-  three_taken at = taken_flat old new l Three stands takes (quiet_three (here old) (piece_of old.bytes.now l) takes at.one at.no_dot).calm.flat step
+module _ (old new : Reader) (at : Place) (n : ℕ) (h : IsNumberAt old.bytes.now old.laid.now old.at at n) (known : (n ≡ 3) ⊎ (n ≡ 4)) (step : Steps old new) where
+  takes : Takes A_major (piece_of old.bytes.now (Item h.token))
+  takes = takes_major old.bytes.now old.laid.now old.at at n h known
 
-  pub three_stands : StandsAt old → StandsAt new
-  three_stands at = stands_next old new l at step.bytes step.laid step.at step.brackets stands (rw step.names (omega arith)) (quiet_three (here old) (piece_of old.bytes.now l) takes at.one at.no_dot).calm
+  pub major_taken : HasTaken (Is Its_magnitude A_major ∷ []) old new (n, tt)
+  major_taken = record {
+    bytes = step.bytes;
+    laid = step.laid;
+    major = step.major;
+    read = rw (step.at, step.names) (read_piece h.taken.here takes h.taken.flat (a_magnitude takes h.is no_symbol));
+  }
 
-  pub three_blocks : StandsAt old → blocks_at new ≡ blocks_at old
-  three_blocks at = ap (λ (x : Levels). x.blocks) (here_next old new l step.bytes step.laid step.at stands) ∙ (quiet_three (here old) (piece_of old.bytes.now l) takes at.one at.no_dot).blocks
+  pub major_stands : StandsAt old → StandsAt new
+  major_stands start =
+      stands_next old new (Item h.token) start step.bytes step.laid step.at step.brackets h.taken.here (rw step.names (omega arith)) (quiet_major (here old) (piece_of old.bytes.now (Item h.token)) takes start.one start.no_dot).calm
 
-  pub three_suffixes : StandsAt old → last_suffixes (here new).suffixes ≡ 0
-  three_suffixes at = ap (λ (x : Levels). last_suffixes x.suffixes) (here_next old new l step.bytes step.laid step.at stands) ∙ three_fresh (here old) (piece_of old.bytes.now l) takes at.no_dot
+  pub major_blocks : StandsAt old → blocks_at new ≡ blocks_at old
+  major_blocks start = ap (λ (x : Levels). x.blocks) (here_next old new (Item h.token) step.bytes step.laid step.at h.taken.here)
+      ∙ (quiet_major (here old) (piece_of old.bytes.now (Item h.token)) takes start.one start.no_dot).blocks
 
-three_met : (reader : Reader) → Meets Three reader → Meets A_number reader
-three_met reader m = record { laid = m.laid; stands = m.stands; takes = three_is_number (piece_of reader.bytes.now m.laid) m.takes }
+  pub major_suffixes : StandsAt old → last_suffixes (here new).suffixes ≡ 0
+  major_suffixes start = ap (λ (x : Levels). last_suffixes x.suffixes) (here_next old new (Item h.token) step.bytes step.laid step.at h.taken.here)
+      ∙ major_fresh (here old) (piece_of old.bytes.now (Item h.token)) takes start.no_dot
+
+major_met : (reader : Reader) → Meets A_major reader → Meets A_number reader
+major_met reader m = record { laid = m.laid; stands = m.stands; takes = major_is_number (piece_of reader.bytes.now m.laid) m.takes }
 
 pub version_absent : (reader : Reader) (fault : ParseFault) → ¬ (Meets A_number reader) → NamesHere reader fault → VersionRefused reader fault
-version_absent reader fault none names = no_number fault none (names.refused Three (λ m. none (three_met reader m)) Nothing)
+version_absent reader fault none names = no_number fault none (names.refused A_major (λ m. none (major_met reader m)) Its_magnitude)
 
-pub other_version : (reader : Reader) (at : Place) (n : ℕ) → IsNumberAt reader.bytes.now reader.laid.now reader.at at n → ¬ (n ≡ 3) → VersionRefused reader (BadVersion at)
+pub other_version : (reader : Reader) (at : Place) (n : ℕ) → IsNumberAt reader.bytes.now reader.laid.now reader.at at n → ¬ ((n ≡ 3) ⊎ (n ≡ 4)) → VersionRefused reader (BadVersion at)
 unfolding number_met
 other_version reader at n h differs = rw h.place (other_number (number_met reader (Item h.token) h.taken.here h.taken.takes)
     (λ m. (let same : m.laid ≡ Item h.token = one_at reader.laid.now reader.at m.laid (Item h.token) m.stands h.taken.here in
-    let three : Takes Three (piece_of reader.bytes.now (Item h.token)) = rw same at m.takes in
-    differs (magnitudes_agree (bytes_of reader.bytes.now h.token) n 3 h.is (digits_three h.token.kind (bytes_of reader.bytes.now h.token) three)))))
+    let major : Takes A_major (piece_of reader.bytes.now (Item h.token)) = rw same at m.takes in
+    differs (major_known h.token.kind (bytes_of reader.bytes.now h.token) n major h.is))))

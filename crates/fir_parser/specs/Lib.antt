@@ -1,5 +1,2 @@
-pub mod Branching
-pub mod Expected
-pub mod Keys
+pub mod Heads
 pub mod Reading
-pub mod Taking

@@ -1,24 +1,23 @@
 //! Modules with their ports (FIRRTL specification 3.0, "Circuits and Modules").
 
-ghost use Rattle.std.specs.Prelude.{◌≡◌, [], ◌∷◌, MatchBool};
-ghost use Rattle.fir_grammar.specs.Grammar.{A, Circuit_body, Modules, Module, Module_body, Ports, Port, line_end};
-ghost use Rattle.fir_parser.specs.Taking.{StandsAt, InBlocks, Reads, ReadsAll, ReadsToEnd};
-ghost use Rattle.fir_parser.specs.Expected.{BeginsPort, side_of};
+ghost use Rattle.std.specs.Prelude.{◌≡◌, [], ◌∷◌, codes, MatchBool};
+ghost use Rattle.fir_grammar.specs.Grammar.{A, The_word, Circuit_body, Modules, Module, Module_body, Ports, Port, word, name, colon, line_end};
+ghost use Rattle.line_parser.specs.Taking.{StandsAt, InBlocks, Reads, ReadsAll, ReadsToEnd};
+ghost use Rattle.line_parser.specs.Expected.{Meets};
+ghost use Rattle.fir_parser.specs.Heads.{BeginsPort, side_of};
 
-use crate::block::read_statements;
-use crate::header::{read_named, read_typed};
-use crate::take::{Expected, meets, take, take_close, take_open};
 use bit_words::List;
 use fir_expr::Reader;
-use fir_tree::{ParseFault, Stmt};
+use fir_tree::ParseFault;
 use fir_types::Port as ModulePort;
+use item_lines::{Line, LineModule};
+use line_parser::{
+    Expected, meets, read_named, read_statements, read_typed, take, take_close, take_open,
+};
 use std::alloc::Global;
 
 /// The modules of a circuit in their block, or none where no block stands.
-pub fn read_circuit_body(
-    alloc: Global,
-    reader: &mut Reader,
-) -> Result<List<fir_tree::Module>, ParseFault>
+pub fn read_circuit_body(alloc: Global, reader: &mut Reader) -> Result<List<LineModule>, ParseFault>
     requires { InBlocks 0 reader.old }
     ensures { Reads Circuit_body reader.old reader.new result }
 {
@@ -31,7 +30,7 @@ pub fn read_circuit_body(
 }
 
 /// The modules of a circuit and the end of their block.
-fn read_modules(alloc: Global, reader: &mut Reader) -> Result<List<fir_tree::Module>, ParseFault>
+fn read_modules(alloc: Global, reader: &mut Reader) -> Result<List<LineModule>, ParseFault>
     requires { InBlocks 1 reader.old }
     ensures { ReadsToEnd Modules reader.old reader.new result }
 {
@@ -44,20 +43,43 @@ fn read_modules(alloc: Global, reader: &mut Reader) -> Result<List<fir_tree::Mod
     Ok(modules)
 }
 
-/// A module.
-fn read_module(alloc: Global, reader: &mut Reader) -> Result<fir_tree::Module, ParseFault>
+/// A module, which may be public.
+fn read_module(alloc: Global, reader: &mut Reader) -> Result<LineModule, ParseFault>
     requires { InBlocks 1 reader.old }
     ensures { Reads Module reader.old reader.new result }
+{
+    if meets(reader, Expected::Word("public")) {
+        return read_public(alloc, reader);
+    }
+    let module = read_headed(alloc, reader)?;
+    Ok(module)
+}
+
+/// The word `public` and a module behind it.
+fn read_public(alloc: Global, reader: &mut Reader) -> Result<LineModule, ParseFault>
+    requires inside { InBlocks 1 reader.old }
+    requires word { Meets (The_word (codes "public")) reader.old }
+    ensures { Reads Module reader.old reader.new result }
+{
+    take(reader, Expected::Word("public"))?;
+    let module = read_headed(alloc, reader)?;
+    Ok(module)
+}
+
+/// A module from the word `module` on.
+fn read_headed(alloc: Global, reader: &mut Reader) -> Result<LineModule, ParseFault>
+    requires { InBlocks 1 reader.old }
+    ensures { ReadsAll (word "module" ∷ name ∷ colon ∷ line_end ∷ A Module_body ∷ []) (λ it. (it.name, ((it.ports, it.body), tt))) reader.old reader.new result }
 {
     let name = read_named(reader, "module", b':')?;
     take(reader, Expected::LineEnd)?;
     let inside = read_module_body(alloc, reader)?;
     let (ports, body) = inside;
-    Ok(fir_tree::Module { name, ports, body })
+    Ok(LineModule { name, ports, body })
 }
 
 /// The ports and the statements of a module.
-type Inside = (List<ModulePort>, List<Stmt>);
+type Inside = (List<ModulePort>, List<Line>);
 
 /// The ports and the statements of a module in their block, or none where no block stands.
 fn read_module_body(alloc: Global, reader: &mut Reader) -> Result<Inside, ParseFault>

@@ -2,24 +2,26 @@
 
 ghost use Rattle.std.specs.Prelude.{◌≡◌, ◌<◌, ◌+◌, ◌-◌, ◌^◌, ◌⊎◌, ◌++◌, ℕ, [], ◌∷◌, length, drop, IfOk, IfErr, OnOk, IsTrue, MatchResult};
 ghost use Rattle.fir_layout.specs.Pieces.{pieces_of};
-ghost use Rattle.fir_grammar.specs.Grammar.{Is, A, Nothing, Ends, Circuit_body, Text, IsCircuit, word, name, colon, line_end, field_names};
+ghost use Rattle.fir_grammar.specs.Grammar.{Is, A, Nothing, Ends, Circuit_body, IsCircuit, word, name, colon, line_end, field_names};
 ghost use Rattle.fir_grammar.specs.Faults.{IsDeepAt, FaultOf};
 ghost use Rattle.fir_tree.specs.declared.fault.ParseFault.{ParseFault as TheFault};
 ghost use Rattle.fir_tree.specs.declared.fault.ParseFault.TheVariants.{NoMemory};
 ghost use Rattle.fir_tree.specs.declared.circuit.Circuit.{Circuit as TheCircuit};
 ghost use Rattle.token_reader.specs.Standing.{IsLaidFrom};
-ghost use Rattle.fir_parser.specs.Taking.{InBlocks, HasTaken, Refuses};
+ghost use Rattle.line_parser.specs.Taking.{InBlocks, HasTaken, Refuses};
+ghost use Rattle.fir_parser.specs.Heads.{IsTextRead};
 ghost use Rattle.fir_parser.specs.Reading.{is_apart};
 
-use crate::header::read_named;
 use crate::module::read_circuit_body;
-use crate::take::{Expected, take};
-use crate::version::{read_numbers, read_words, take_three};
+use crate::version::{read_numbers, read_words, take_major};
 use bit_words::List;
 use fir_expr::Reader;
 use fir_layout::Laid;
-use fir_tree::{Circuit, Module, Names, ParseFault};
+use fir_tree::{Circuit, Names, ParseFault};
 use fir_types::Name;
+use item_lines::LineModule;
+use line_parser::{Expected, read_named, take};
+use line_stmts::stand;
 use std::alloc::Global;
 
 /// A text with as many parts or more isn't read: its names might have no numbers.
@@ -53,34 +55,34 @@ fn read_all<'a>(alloc: Global, bytes: &'a [u8], laid: &'a [Laid]) -> Result<Circ
     let mut reader = Reader::new(alloc, bytes, laid);
     reader.index_lines(alloc)?;
     add_field_names(&mut reader.names)?;
-    let circuit = read_text(alloc, &mut reader)?;
-    let (main, modules) = circuit;
-    Ok(Circuit {
-        names: reader.names,
-        main,
-        modules,
-        prints: List::new(alloc),
-    })
+    let text = read_text(alloc, &mut reader)?;
+    let (_major, (main, lines)) = text;
+    let circuit = stand(alloc, reader.names, main, lines)?;
+    Ok(circuit)
 }
 
+/// What a text has: its version's first number, the name of its main module, and its modules.
+type Parsed = (u8, (Name, List<LineModule>));
+
 /// The version line and the circuit.
-fn read_text(alloc: Global, reader: &mut Reader) -> Result<(Name, List<Module>), ParseFault>
+fn read_text(alloc: Global, reader: &mut Reader) -> Result<Parsed, ParseFault>
     requires inside { InBlocks 0 reader.old }
     requires start { reader.old.at ≡ 0 }
-    ensures ok { IfOk result (λ it. HasTaken (A Text ∷ []) reader.old reader.new ((it.0, it.1), tt)) }
+    ensures ok { IfOk result (λ it. IsTextRead it.0 reader.old reader.new it.1) }
     ensures end { OnOk result (drop reader.new.at reader.old.laid.now ≡ []) }
     ensures shallow { IfOk result (λ _. (k : ℕ) → ¬ (IsDeepAt (pieces_of reader.old.bytes.now reader.old.laid.now) k)) }
     ensures fault { IfErr result (λ fault. (fault ≡ NoMemory) ⊎ FaultOf reader.old.bytes.now reader.old.laid.now fault) }
 {
     read_words(reader)?;
-    take_three(reader)?;
+    let major = take_major(reader)?;
+    reader.set_major(major);
     read_numbers(reader)?;
     let circuit = read_circuit(alloc, reader)?;
-    Ok(circuit)
+    Ok((major, circuit))
 }
 
 /// The circuit behind the version line, up to the end of the text.
-fn read_circuit(alloc: Global, reader: &mut Reader) -> Result<(Name, List<Module>), ParseFault>
+fn read_circuit(alloc: Global, reader: &mut Reader) -> Result<(Name, List<LineModule>), ParseFault>
     requires { InBlocks 0 reader.old }
     ensures ok { IfOk result (λ it. HasTaken (word "circuit" ∷ name ∷ colon ∷ line_end ∷ A Circuit_body ∷ Is Nothing Ends ∷ []) reader.old reader.new (it.0, (it.1, tt))) }
     ensures end { OnOk result (drop reader.new.at reader.old.laid.now ≡ []) }

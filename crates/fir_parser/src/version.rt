@@ -1,15 +1,16 @@
 //! The version line.
 
-ghost use Rattle.std.specs.Prelude.{◌≡◌, ◌+◌, ◌-◌, ◌<◌, ◌^◌, [], ◌∷◌, length, IfErr, OnOk, OnErr};
-ghost use Rattle.fir_grammar.specs.Grammar.{Is, Nothing, Three, A_number, The_mark, word, mark, line_end};
+ghost use Rattle.std.specs.Prelude.{◌≡◌, ◌⊎◌, ◌+◌, ◌-◌, ◌<◌, ◌^◌, [], ◌∷◌, length, IfOk, IfErr, IfSome, IfNone, OnOk, OnErr};
+ghost use Rattle.fir_grammar.specs.Grammar.{Is, Nothing, Its_magnitude, A_major, A_number, The_mark, word, mark, line_end};
 ghost use Rattle.fir_grammar.specs.Faults.{most, last_suffixes};
 ghost use Rattle.token_reader.specs.Standing.{IsLaidFrom};
-ghost use Rattle.fir_parser.specs.Taking.{StandsAt, HasTaken, Refuses, ReadsAll, Steps, blocks_at, here};
-ghost use Rattle.fir_parser.specs.Expected.{Meets, VersionRefused, WordsStand};
+ghost use Rattle.line_parser.specs.Taking.{StandsAt, HasTaken, Refuses, ReadsAll, Steps, blocks_at, here};
+ghost use Rattle.line_parser.specs.Expected.{Meets};
+ghost use Rattle.fir_parser.specs.Heads.{VersionRefused, WordsStand};
 
-use crate::take::{Expected, advance, fault_here, meets, take};
 use fir_expr::Reader;
 use fir_tree::ParseFault;
+use line_parser::{Expected, advance, fault_here, meets, take};
 
 /// The words before the version's numbers.
 pub fn read_words(reader: &mut Reader) -> Result<(), ParseFault>
@@ -24,9 +25,10 @@ pub fn read_words(reader: &mut Reader) -> Result<(), ParseFault>
 }
 
 /// The version's first number.
-pub fn take_three(reader: &mut Reader) -> Result<(), ParseFault>
+pub fn take_major(reader: &mut Reader) -> Result<u8, ParseFault>
     requires at { StandsAt reader.old }
-    ensures ok { OnOk result (HasTaken (Is Nothing Three ∷ []) reader.old reader.new tt) }
+    ensures ok { IfOk result (λ major. HasTaken (Is Its_magnitude A_major ∷ []) reader.old reader.new (major, tt)) }
+    ensures known { IfOk result (λ major. (major ≡ 3) ⊎ (major ≡ 4)) }
     ensures at { OnOk result (StandsAt reader.new) }
     ensures blocks { OnOk result (blocks_at reader.new ≡ blocks_at reader.old) }
     ensures suffixes { OnOk result (last_suffixes (here reader.new).suffixes ≡ 0) }
@@ -36,11 +38,24 @@ pub fn take_three(reader: &mut Reader) -> Result<(), ParseFault>
         return Err(fault_here(reader));
     };
     let (place, magnitude) = number;
-    if magnitude != 3 {
+    let Some(major) = major_of(magnitude) else {
         return Err(ParseFault::BadVersion(place));
-    }
+    };
     advance(reader);
-    Ok(())
+    Ok(major)
+}
+
+/// A number as the first one of a version that is read.
+fn major_of(magnitude: u128) -> Option<u8>
+    ensures same { IfSome result (λ major. major ≡ magnitude) }
+    ensures known { IfSome result (λ major. (major ≡ 3) ⊎ (major ≡ 4)) }
+    ensures none { IfNone result (¬ ((magnitude ≡ 3) ⊎ (magnitude ≡ 4))) }
+{
+    match magnitude {
+        3 => Some(3),
+        4 => Some(4),
+        _ => None,
+    }
 }
 
 /// The version's other numbers, each behind a `.`, and the end of the line.

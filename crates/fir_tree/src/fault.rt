@@ -12,7 +12,7 @@ pub enum ParseFault {
     #[error("a token that can't continue the text")]
     BadSyntax(Place),
     /// The version's first number isn't 3.
-    #[error("a version other than 3")]
+    #[error("a version other than 3 and 4")]
     BadVersion(Place),
     /// The token can't continue the text, and is one of those that name what isn't supported.
     #[error("an unsupported construct")]

@@ -6,6 +6,8 @@ mod Steps
 mod Once
 mod Expressions
 mod Held
+mod Shapes
+mod ItemShapes
 pub mod Spelled
 mod Known
 mod Walking

@@ -160,6 +160,12 @@ none_of p (y ∷ ys) (suc k) x h e = none_of p ys k x ((split (p y) (list_any p 
 none_plus : (k : ℕ) → k ≡ 0 + k
 none_plus k = omega arith
 
+none_same : (n : Numbering) (flip : Bool) (ls : List TypeLeaf) (has : Instant → List Value) (ms : List (List Leaf)) (fits : List (Option Source)) → FitsAll n flip ls has ms fits → has_none fits ≡ has_none ls
+none_same n flip [] has ms [] all = refl
+none_same n flip [] has ms (f ∷ fs) all = absurd all
+none_same n flip (l ∷ ls) has ms [] all = absurd all
+none_same n flip (l ∷ ls) has ms (f ∷ fs) all = refl
+
 half_named : (entries : Entries) (n : Numbering) (types : Scope) → Knows n types entries → IsOneToOne n → (settable : List Bool) (flip : Bool) (name : Name) (suffixes : List Suffix) (sources : List Source) (made : List GroundStmt)
     → (set : IsSet entries settable flip name suffixes sources made) → (steps : ℕ)
     → Followed types name.id set.typ steps (follow_all types name.id (map suffix_onward suffixes))
@@ -219,9 +225,9 @@ half_named entries n types knows one settable flip name suffixes sources made se
         by_way : (o : Option (List PathStep)) (q : Option ℕ) → picked instant set.part.picks set.part.first ≡ q → Reaches n region.component set.typ o q
             → option_map integer_of (in_turn (map (effect instant x) (set_leaves settable set.part.picks set.part.first set.side.fits)) last) ≡ left_in leaf (option_map integer_of last) (set_along flip (spot instant) o (hasS instant))
         by_way (Some way) (Some first) e r =
-            effects_some n one flip settable set.part.picks set.side.numbered x leaf allowed is_x instant h region.component way (leaves set.typ) hasS ms set.side.fits set.part.first first all e (λ k l g. r.numbers k l g) last
+            effects_some n one flip settable set.part.picks x leaf allowed is_x instant h region.component way (leaves set.typ) hasS ms set.side.fits set.part.first first set.side.numbered all e (λ k l g. r.numbers k l g) last
             ∙ ap₂ (λ c t. left_in leaf (option_map integer_of last) (map (setting c way) (of_orientation flip (beside (lone []) (leaves t) (hasS instant))))) (sym (p.component instant)) (sym (p.spot_type instant))
-        by_way None None e r = ap (option_map integer_of) (effects_none n one flip settable set.part.picks set.side.numbered x leaf allowed is_x instant set.side.fits set.part.first e last)
+        by_way None None e r = ap (option_map integer_of) (effects_none n one flip settable set.part.picks x leaf allowed is_x instant set.side.fits set.part.first (λ f. set.side.numbered (sym (none_same n flip (leaves set.typ) hasS ms set.side.fits all) ∙ f)) e last)
         by_way (Some way) None e r = absurd r
         by_way None (Some first) e r = absurd r
 

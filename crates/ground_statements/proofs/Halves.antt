@@ -35,8 +35,8 @@ use Rattle.ground_exprs.proofs.Members.{some_same, only_one, the_one, not_in_non
 use Rattle.ground_exprs.proofs.Onwards.{picked_moved, choice_moved, choice_back}
 use Rattle.ground_exprs.specs.declared.source.Source.{Source}
 use Rattle.ground_statements.specs.declared.targets.Target.{Target}
-use Rattle.ground_statements.specs.Connects.{IsOneToOne, SameLives, LeavesAlone}
-use Rattle.ground_statements.specs.Targets.{targets, are_numbered, is_allowed, set_each, set_one, set_leaves}
+use Rattle.ground_statements.specs.Connects.{IsOneToOne, has_none, SameLives, LeavesAlone}
+use Rattle.ground_statements.specs.Targets.{targets, AreCounted, is_allowed, set_each, set_one, set_leaves}
 use Rattle.ground_statements.proofs.Statements.{effects-append, certain-append, shaped-append, live-append, alone_none, alone_append}
 use Rattle.ground_statements.proofs.Hits.{picked_is, hits_targets, each_effect, each_alone, each_uncertain, one_certain, lives_of, each_live, one_live, lives_from, lives_in, lives_some, target_choice, choice_target, dynamic_targets, target_reads, reads_target, target_shapes, each_shaped}
 use Rattle.ground_statements.proofs.Ways.{same_front}
@@ -153,7 +153,7 @@ not_allowed None d = refl
 
 -- Effects
 
-module _ (n : Numbering) (one : IsOneToOne n) (flip : Bool) (settable : List Bool) (picks : List Pick) (small : are_numbered picks ≡ true) (x : ℕ) (z : Leaf)
+module _ (n : Numbering) (one : IsOneToOne n) (flip : Bool) (settable : List Bool) (picks : List Pick) (x : ℕ) (z : Leaf)
     (may : is_allowed (slice_get settable x) ≡ true) (is_x : n.number z ≡ Some x) where
   put_if : (b : Bool) (v : Value) (last : Option Value) (i : ℤ) → integer_of v ≡ i → option_map integer_of (if b then Some v else last) ≡ if b then Some i else option_map integer_of last
   put_if true v last i e = ap Some e
@@ -166,9 +166,9 @@ module _ (n : Numbering) (one : IsOneToOne n) (flip : Bool) (settable : List Boo
       let number : first ≡ x = some_same (sym e ∙ (ap n.number same ∙ is_x)) in ap (λ m. m == x) number ∙ same_number x)
       (λ s. leaf_itself (record { component = c; way = way }) z (one (record { component = c; way = way }) z x (e ∙ ap Some (numbers_equal first x s)) is_x))
 
-  one_effect : (instant : Instant) (number : ℕ) (s : Source) (last : Option Value)
+  one_effect : AreCounted picks → (instant : Instant) (number : ℕ) (s : Source) (last : Option Value)
       → in_turn (map (effect instant x) (set_each settable s.expr (targets picks number))) last ≡ if picked_is x (picked instant picks number) then Some (value s.expr instant) else last
-  one_effect instant number s last =
+  one_effect small instant number s last =
       each_effect settable s.expr x may instant (targets picks number) last ∙ ap (λ b. if b then Some (value s.expr instant) else last) (hits_targets instant x picks number small)
 
   next_picked : (instant : Instant) (number first : ℕ) → picked instant picks number ≡ Some first → picked instant picks (number + 1) ≡ Some (first + 1)
@@ -176,16 +176,16 @@ module _ (n : Numbering) (one : IsOneToOne n) (flip : Bool) (settable : List Boo
 
   -- Where the indices lead to a way, the leaves behind it are set.
   pub effects_some : (instant : Instant) → HasShapes n.table instant → (c : ℕ) (way : List PathStep) (ls : List TypeLeaf) (has : Instant → List Value) (ms : List (List Leaf)) (fits : List (Option Source)) (number first : ℕ)
-      → FitsAll n flip ls has ms fits → picked instant picks number ≡ Some first
+      → (has_none ls ≡ false → AreCounted picks) → FitsAll n flip ls has ms fits → picked instant picks number ≡ Some first
       → ((k : ℕ) (leaf : TypeLeaf) → slice_get ls k ≡ Some leaf → n.number (record { component = c; way = way ++ leaf.path }) ≡ Some (first + k)) → (last : Option Value)
       → option_map integer_of (in_turn (map (effect instant x) (set_leaves settable picks number fits)) last)
       ≡ left_in z (option_map integer_of last) (map (setting c way) (of_orientation flip (beside (lone []) ls (has instant))))
-  effects_some instant h c way [] has ms [] number first all e at last = refl
-  effects_some instant h c way [] has ms (f ∷ fs) number first all e at last = absurd all
-  effects_some instant h c way (l ∷ ls) has ms [] number first all e at last = absurd all
-  effects_some instant h c way (l ∷ ls) has ms (f ∷ fs) number first all e at last =
+  effects_some instant h c way [] has ms [] number first small all e at last = refl
+  effects_some instant h c way [] has ms (f ∷ fs) number first small all e at last = absurd all
+  effects_some instant h c way (l ∷ ls) has ms [] number first small all e at last = absurd all
+  effects_some instant h c way (l ∷ ls) has ms (f ∷ fs) number first small all e at last =
       ap (option_map integer_of) (effects-append instant x (set_one settable picks number f) (set_leaves settable picks (number + 1) fs) last)
-      ∙ (effects_some instant h c way ls (λ instant. tail (has instant)) (tail ms) fs (number + 1) (first + 1) all.1 (next_picked instant number first e) later
+      ∙ (effects_some instant h c way ls (λ instant. tail (has instant)) (tail ms) fs (number + 1) (first + 1) (λ _. small refl) all.1 (next_picked instant number first e) later
       (in_turn (map (effect instant x) (set_one settable picks number f)) last)
       ∙ (step_of f all.0 ∙ ap (λ ps. left_in z (option_map integer_of last) (map (setting c way) (of_orientation flip ps))) (sym (beside-cons (lone []) l ls (has instant)))))
     where
@@ -203,23 +203,23 @@ module _ (n : Numbering) (one : IsOneToOne n) (flip : Bool) (settable : List Boo
       step_of None t = turned_case false t (option_map integer_of last)
       step_of (Some s) fit =
           ap (λ v. left_in z v (map (setting c way) (of_orientation flip (beside (lone []) ls (tail (has instant))))))
-          (ap (option_map integer_of) (one_effect instant number s last ∙ ap (λ o. if picked_is x o then Some (value s.expr instant) else last) e)
+          (ap (option_map integer_of) (one_effect (small refl) instant number s last ∙ ap (λ o. if picked_is x o then Some (value s.expr instant) else last) e)
           ∙ (put_if (first == x) (value s.expr instant) last (integer_of (fitted_to l (integer_of (head_or (lone []) (has instant))))) (fit.value instant h)
           ∙ ap (λ b. if b then Some (integer_of (fitted_to l (integer_of (head_or (lone []) (has instant))))) else option_map integer_of last)
           (sym (number_same c first (way ++ l.path) (at 0 l refl ∙ ap Some (plus_none first))))))
           ∙ turned_case true fit.turned (option_map integer_of last)
 
   -- Where an index is out of its vector, nothing is set.
-  pub effects_none : (instant : Instant) (fits : List (Option Source)) (number : ℕ) → picked instant picks number ≡ None → (last : Option Value)
+  pub effects_none : (instant : Instant) (fits : List (Option Source)) (number : ℕ) → (has_none fits ≡ false → AreCounted picks) → picked instant picks number ≡ None → (last : Option Value)
       → in_turn (map (effect instant x) (set_leaves settable picks number fits)) last ≡ last
-  effects_none instant [] number e last = refl
-  effects_none instant (f ∷ fs) number e last =
+  effects_none instant [] number small e last = refl
+  effects_none instant (f ∷ fs) number small e last =
       effects-append instant x (set_one settable picks number f) (set_leaves settable picks (number + 1) fs) last
-      ∙ (effects_none instant fs (number + 1) (picked_moved instant picks number 1 ∙ ap (option_map (λ y. y + 1)) e) (in_turn (map (effect instant x) (set_one settable picks number f)) last) ∙ here f)
+      ∙ (effects_none instant fs (number + 1) (λ _. small refl) (picked_moved instant picks number 1 ∙ ap (option_map (λ y. y + 1)) e) (in_turn (map (effect instant x) (set_one settable picks number f)) last) ∙ here f)
     where
       here : (o : Option Source) → in_turn (map (effect instant x) (set_one settable picks number o)) last ≡ last
       here None = refl
-      here (Some s) = one_effect instant number s last ∙ ap (λ o. if picked_is x o then Some (value s.expr instant) else last) e
+      here (Some s) = one_effect (small refl) instant number s last ∙ ap (λ o. if picked_is x o then Some (value s.expr instant) else last) e
 
 -- Leaves that may not be set
 

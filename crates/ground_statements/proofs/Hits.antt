@@ -28,12 +28,13 @@ use Rattle.net_meaning.specs.Shapes.{Shape, shaped, same_kind, shape_of_row, Tab
 use Rattle.net_meaning.specs.StatementShapes.{some_unsigned, is_condition, is_source, is_shaped}
 use Rattle.net_meaning.proofs.Shaping.{shape-Op, shape-Const, both_true}
 use Rattle.ground_exprs.specs.declared.part.Pick.{Pick}
-use Rattle.ground_exprs.specs.Parts.{picked_from, picked, choices, index_mentions, is_index_shape, are_indices}
+use Rattle.ground_exprs.specs.Parts.{picked_from, picked, choices, index_mentions, is_index_shape, are_indices, is_nowhere}
 use Rattle.ground_exprs.proofs.Members.{only_one, the_one, not_in_none, in_front, in_later, in_map, from_map, in_flat_map, from_flat_map, from_range}
 use Rattle.ground_exprs.proofs.Selections.{index_cases, index_here, index_later}
 use Rattle.ground_statements.specs.declared.targets.Target.{Target}
 use Rattle.ground_statements.specs.Connects.{has_none, LeavesAlone}
-use Rattle.ground_statements.specs.Targets.{equals, under_condition, targets, are_numbered, is_allowed, set_each}
+use Rattle.ground_statements.specs.Targets.{equals, under_condition, targets, are_numbered, AreCounted, is_allowed, set_each}
+use Rattle.ground_statements.proofs.Walks.{nowhere_none}
 use Rattle.ground_statements.proofs.Statements.{effect-Connect, live-Connect, certain-Connect, uncertain-Connect, shaped-Connect, effects-append, certain-append, shaped-append, live-append, alone_none, alone_append, other_alone}
 
 -- The test of an index
@@ -193,16 +194,42 @@ one_leaf true = refl
 one_leaf false = refl
 
 -- A leaf is set where the indices pick it.
-pub hits_targets : (instant : Instant) (x : ℕ) (picks : List Pick) (leaf : ℕ) → are_numbered picks ≡ true → hits instant x (targets picks leaf) ≡ picked_is x (picked instant picks leaf)
-hits_targets instant x [] leaf h = one_leaf (leaf == x)
-hits_targets instant x (pick ∷ picks) leaf h =
+hits_numbered : (instant : Instant) (x : ℕ) (picks : List Pick) (leaf : ℕ) → are_numbered picks ≡ true → hits instant x (targets picks leaf) ≡ picked_is x (picked instant picks leaf)
+hits_numbered instant x [] leaf h = one_leaf (leaf == x)
+hits_numbered instant x (pick ∷ picks) leaf h =
     let split = both_true (nat_lt pick.length (2 ^ 32)) (are_numbered picks) h in
     any_flat (λ (t : Target). (t.leaf == x) && all_hold instant t.conditions) (λ k. map (under_condition (equals pick.index k)) (targets picks (leaf + k * pick.stride))) (range_with_len 0 pick.length)
     ∙ (any_same (λ k. hits instant x (map (under_condition (equals pick.index k)) (targets picks (leaf + k * pick.stride))))
     (λ k. picked_is x (picked instant picks (leaf + k * pick.stride)) && int_eq (integer_of (value pick.index instant)) (pos k)) (range_with_len 0 pick.length)
     (λ k c. hits_under instant x (equals pick.index k) (targets picks (leaf + k * pick.stride))
-    ∙ ap₂ (λ a b. a && b) (hits_targets instant x picks (leaf + k * pick.stride) split.1) (equals_holds instant pick.index k (small k pick.length split.0 (from_range 0 pick.length k c).1)))
+    ∙ ap₂ (λ a b. a && b) (hits_numbered instant x picks (leaf + k * pick.stride) split.1) (equals_holds instant pick.index k (small k pick.length split.0 (from_range 0 pick.length k c).1)))
     ∙ picked_of x pick.length (λ k. picked instant picks (leaf + k * pick.stride)) (integer_of (value pick.index instant)))
+
+-- Where a vector on the way has no elements, nothing is picked.
+no_element : (n : ℕ) (element : ℕ → Option ℕ) (i : ℤ) → ((k : ℕ) → k < n → element k ≡ None) → picked_from n element i ≡ None
+no_element n element (pos k) h = by (nat_lt k n) refl
+  where
+    by : (b : Bool) → nat_lt k n ≡ b → (if b then element k else None) ≡ None
+    by true e = let below : k < n = grind (arith, common_steps, nat_tests, e) in h k below
+    by false e = refl
+no_element n element (negsuc k) h = refl
+
+nowhere_picked : (instant : Instant) (picks : List Pick) (leaf : ℕ) → is_nowhere picks ≡ true → picked instant picks leaf ≡ None
+nowhere_picked instant [] leaf h = absurd (true≢false (sym h))
+nowhere_picked instant (pick ∷ picks) leaf h =
+    no_element pick.length (λ k. picked instant picks (leaf + k * pick.stride)) (integer_of (value pick.index instant)) (each (pick.length == 0) refl h (λ q k. nowhere_picked instant picks (leaf + k * pick.stride) q))
+  where
+    each : (b : Bool) → (pick.length == 0) ≡ b → (b || is_nowhere picks) ≡ true → (is_nowhere picks ≡ true → (k : ℕ) → picked instant picks (leaf + k * pick.stride) ≡ None)
+        → (k : ℕ) → k < pick.length → picked instant picks (leaf + k * pick.stride) ≡ None
+    each true e q deep k l = let none : pick.length ≡ 0 = grind (arith, common_steps, nat_tests, e) in absurd (omega (arith, none, l))
+    each false e q deep k l = deep q k
+
+pub hits_targets : (instant : Instant) (x : ℕ) (picks : List Pick) (leaf : ℕ) → AreCounted picks → hits instant x (targets picks leaf) ≡ picked_is x (picked instant picks leaf)
+hits_targets instant x picks leaf counted = by (is_nowhere picks) refl
+  where
+    by : (b : Bool) → is_nowhere picks ≡ b → hits instant x (targets picks leaf) ≡ picked_is x (picked instant picks leaf)
+    by true e = ap (hits instant x) (nowhere_none picks leaf e) ∙ ap (picked_is x) (sym (nowhere_picked instant picks leaf e))
+    by false e = hits_numbered instant x picks leaf (counted e)
 
 -- Effects
 

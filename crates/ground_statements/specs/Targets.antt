@@ -16,8 +16,10 @@ use Rattle.fir_meaning.specs.Drives.{is_turned}
 use Rattle.ground_exprs.specs.declared.part.Pick.{Pick}
 use Rattle.ground_exprs.specs.declared.part.Part.{Part}
 use Rattle.ground_exprs.specs.declared.source.Source.{Source}
+use Rattle.ground_exprs.specs.Parts.{is_nowhere}
 use Rattle.ground_exprs.specs.Sources.{IsFitted}
 use Rattle.ground_statements.specs.declared.targets.Target.{Target}
+use Rattle.ground_statements.specs.Connects.{has_none}
 
 -- The index is this number.
 abbrev pub equals : Ground → ℕ → Ground
@@ -35,6 +37,10 @@ targets (pick ∷ picks) leaf = flat_map (λ k. map (under_condition (equals pic
 -- Numbers of 32 bits count the elements of each vector on the way.
 abbrev pub are_numbered : List Pick → Bool
 are_numbered picks = list_all (λ pick. nat_lt pick.length (2 ^ 32)) picks
+
+-- They do, unless a vector on the way has no elements: then nothing is behind it, however long the others are.
+abbrev pub AreCounted : List Pick → Type 0
+AreCounted picks = is_nowhere picks ≡ false → are_numbered picks ≡ true
 
 -- the flag of a leaf; none is false
 abbrev pub is_allowed : Option Bool → Bool
@@ -86,9 +92,9 @@ AreFits flip [] sources [] = Unit {0}
 AreFits flip (leaf ∷ ls) sources (fit ∷ fits) = FitsLeaf flip leaf (first_of sources) fit × AreFits flip ls (rest_of sources) fits
 AreFits flip _ sources _ = ⊥
 
--- The leaves of one orientation of a part are set to the sources beside them.
+-- The leaves of one orientation of a part are set to the sources beside them. Of a part without leaves nothing is asked.
 pub record IsSide (settable : List Bool) (flip : Bool) (typ : FirType) (part : Part) (sources : List Source) (made : List GroundStmt) : Type 0 where
-  pub numbered : are_numbered part.picks ≡ true
+  pub numbered : has_none (leaves typ) ≡ false → AreCounted part.picks
   pub fits : List (Option Source)
   pub fit : AreFits flip (leaves typ) sources fits
   pub is : made ≡ set_leaves settable part.picks part.first fits

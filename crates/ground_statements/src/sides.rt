@@ -1,9 +1,10 @@
 //! One side of a connect: the leaves of a part that are flipped, or those that aren't.
 
-ghost use Rattle.std.specs.Prelude.{◌≡◌, ◌≤◌, ◌++◌, pos, IfOk, OnOk};
+ghost use Rattle.std.specs.Prelude.{◌≡◌, ◌≤◌, ◌++◌, false, pos, IfOk, OnOk};
 ghost use Rattle.cycle_values.specs.Values.{fitted};
 ghost use Rattle.ground_net.specs.declared.ground.Ground.TheVariants.{Const};
-ghost use Rattle.ground_statements.specs.Targets.{AreFits, FitsLeaf, IsSide, set_leaves, set_one, are_numbered};
+ghost use Rattle.ground_statements.specs.Connects.{has_none};
+ghost use Rattle.ground_statements.specs.Targets.{AreFits, FitsLeaf, IsSide, set_leaves, set_one, are_numbered, AreCounted};
 
 use crate::targets::{push_each, targets_of};
 use bit_words::{Kind, List, Number};
@@ -11,7 +12,7 @@ use fir_types::{FirType, TypeLeaf};
 use ground_exprs::constants::constant;
 use ground_exprs::fitting::fit_source;
 use ground_exprs::part_sources::{kind_of, leaves_of, width_of};
-use ground_exprs::reading::sum_of;
+use ground_exprs::reading::{lead_nowhere, sum_of};
 use ground_exprs::{Part, Pick, Source};
 use ground_net::{Ground, GroundStmt};
 use std::alloc::{AllocError, Global};
@@ -33,16 +34,24 @@ pub fn set_side(
 ) -> Result<List<GroundStmt>, AllocError>
     ensures { IfOk result (λ made. IsSide side.entry.settable.now side.entry.flip side.entry.typ.now side.entry.part.now sources made) }
 {
-    if !are_numbered(side.part.picks.as_slice()) {
-        return Err(AllocError);
-    }
     let listed = leaves_of(alloc, side.typ)?;
+    check_counted(listed.as_slice(), side.part.picks.as_slice())?;
     let fits = fit_all(alloc, side.flip, listed.as_slice(), sources)?;
     let made = set_all(alloc, side.settable, side.part, fits)?;
     Ok(made)
 }
 
-/// Numbers of 32 bits count the elements of each vector on the way; where they don't, memory is said to be wanted.
+/// Numbers of 32 bits count the elements of each vector on the way to leaves; where they don't, memory is said to be wanted.
+fn check_counted(leaves: &[TypeLeaf], picks: &[Pick]) -> Result<(), AllocError>
+    ensures { IfOk result (λ fits. has_none leaves.now ≡ false → AreCounted picks.now) }
+{
+    if leaves.is_empty() || lead_nowhere(picks) || are_numbered(picks) {
+        Ok(())
+    } else {
+        Err(AllocError)
+    }
+}
+
 fn are_numbered(picks: &[Pick]) -> bool
     ensures { result ≡ are_numbered picks.now }
 {

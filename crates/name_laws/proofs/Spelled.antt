@@ -12,7 +12,7 @@ use Rattle.fir_layout.specs.Layout.{tokens_in}
 use Rattle.fir_layout.specs.Pieces.{A_token, bytes_of}
 use Rattle.fir_tree.specs.Numbered.{AddsName}
 use Rattle.fir_lexer.specs.Bytes.{in_word}
-use Rattle.fir_grammar.specs.Grammar.{Terminal, A_name, A_field, Takes, Kept, Its_name, Symbol, Is, A, Rule, IsCase, a_text, Values, Spells, no_symbol, a_rule, a_piece, a_place, a_name, a_magnitude, a_placed_magnitude, a_quoted, name_in, field_names}
+use Rattle.fir_grammar.specs.Grammar.{Terminal, A_name, A_field, Takes, Kept, Its_name, Symbol, Is, A, Rule, IsCase, a_text, Values, Spells, no_symbol, a_rule, a_piece, a_place, a_name, a_magnitude, a_placed_magnitude, a_quoted, a_format, name_in, field_names}
 use Rattle.name_laws.specs.Names.{names_it, IsWord}
 use Rattle.name_laws.proofs.Tokens.{IsTokenIn, token_word}
 
@@ -77,7 +77,7 @@ adds_word old new name id adds words word = ⊎_elim
     (λ unknown. subst (All IsWord) (sym (adds.added unknown)) (All-push IsWord old name words word))
     (contains_or_not old name)
 
-module _ (text : List ℕ) where
+module _ (major : ℕ) (text : List ℕ) where
   abbrev pub AreTokensIn : List Laid → Type 0
   AreTokensIn ls = All (IsTokenIn text) (tokens_in ls)
 
@@ -91,7 +91,7 @@ module _ (text : List ℕ) where
   first_in : (token : Token) (ls : List Laid) → AreTokensIn (laid.Item token ∷ ls) → IsTokenIn text token
   first_in token ls h = All-head (IsTokenIn text) token (tokens_in ls) h
 
-  pub spelled_words : {ss : List Symbol} {ls rest : List Laid} {names after : List (List ℕ)} {vs : Values ss} → names_only ss ≡ true → Spells text ss ls names vs rest after → AreTokensIn ls → All IsWord names
+  pub spelled_words : {ss : List Symbol} {ls rest : List Laid} {names after : List (List ℕ)} {vs : Values ss} → names_only ss ≡ true → Spells major text ss ls names vs rest after → AreTokensIn ls → All IsWord names
       → AreTokensIn rest × All IsWord after
   spelled_words only no_symbol tokens words = (tokens, words)
   spelled_words only (a_rule {r} {ss} {body} {ls} {mid} case inner more) tokens words =
@@ -106,6 +106,7 @@ module _ (text : List ℕ) where
   spelled_words only (a_magnitude {token} {ls} h n more) tokens words = spelled_words only more (rest_in (laid.Item token) ls tokens) words
   spelled_words only (a_placed_magnitude {token} {ls} h n more) tokens words = spelled_words only more (rest_in (laid.Item token) ls tokens) words
   spelled_words only (a_quoted {token} {ls} h n more) tokens words = spelled_words only more (rest_in (laid.Item token) ls tokens) words
+  spelled_words only (a_format {token} {ls} h n more) tokens words = spelled_words only more (rest_in (laid.Item token) ls tokens) words
 
 -- the fields of memory ports
 abbrev pub passes : List ℕ → Bool

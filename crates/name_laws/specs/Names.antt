@@ -1,6 +1,6 @@
 -- The bytes of names.
-use Rattle.std.specs.Prelude.{ℕ, ◌==◌, ◌||◌, ◌&&◌, not, Bool, true, false, List}
-use Rattle.std.specs.List.{AllPass}
+use Rattle.std.specs.Prelude.{◌≡◌, ℕ, ◌==◌, ◌||◌, ◌&&◌, not, Bool, true, false, List, ◌∷◌, ◌++◌}
+use Rattle.std.specs.List.{All, AllPass}
 use Rattle.fir_lexer.specs.declared.token.TokenKind.{TokenKind}
 use Rattle.fir_lexer.specs.declared.token.TokenKind.TheVariants.{Word, Call, Quoted, Digits, Text, Arrow, Mark}
 use Rattle.fir_lexer.specs.Bytes.{in_word}
@@ -25,6 +25,18 @@ in_name b = in_word b || (b == 35)
 
 abbrev pub IsName : List ℕ → Type 0
 IsName text = AllPass in_name text
+
+-- It is `#`, and letters, digits, `_`, `$` and `-` behind it.
+pub record IsItemName (text : List ℕ) : Type 0 where
+  pub rest : List ℕ
+  pub is : text ≡ 35 ∷ rest
+  pub word : IsWord rest
+
+-- These names are those that a text writes, and behind them further ones that begin with `#`.
+pub record AddItemNames (written names : List (List ℕ)) : Type 0 where
+  pub items : List (List ℕ)
+  pub are : names ≡ written ++ items
+  pub begin : All IsItemName items
 
 -- It has no space and no line feed.
 abbrev pub no_break : ℕ → Bool

@@ -41,6 +41,10 @@ bit_of scene leaf e = integer_of (fitted_to leaf (integer_of (lone (value e scen
 one_bit_of : (leaf : TypeLeaf) (v : Value) → kind_of_leaf leaf ≡ Unsigned → width_of_leaf leaf ≡ 1 → integer_of (fitted_to leaf (integer_of v)) ≡ pos (v.bits % 2)
 one_bit_of leaf v kind width = rw (kind, width) (ap pos (lowest v.kind v.width v.bits v.within))
 
+pub bit_at : (scene : Scene) (leaf : TypeLeaf) (e : Expr) (v : Value) → value e scene ≡ v ∷ [] → kind_of_leaf leaf ≡ Unsigned → width_of_leaf leaf ≡ 1 → bit_of scene leaf e ≡ pos (v.bits % 2)
+unfolding bit_of
+bit_at scene leaf e v is kind width = ap (λ (vs : List Value). integer_of (fitted_to leaf (integer_of (lone vs)))) is ∙ one_bit_of leaf v kind width
+
 pub bit_is_odd : (scene : Scene) (leaf : TypeLeaf) (e : Expr) → kind_of_leaf leaf ≡ Unsigned → width_of_leaf leaf ≡ 1 → (bit_of scene leaf e ≡ pos 1 → is_odd (value e scene) ≡ true) × (is_odd (value e scene) ≡ true → bit_of scene leaf e ≡ pos 1)
 unfolding bit_of
 bit_is_odd scene leaf e kind width = by (value e scene)

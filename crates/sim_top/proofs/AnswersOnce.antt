@@ -28,6 +28,11 @@ use Rattle.crew_run.proofs.Lines.{summary_once}
 use Rattle.circuit_make.specs.Rings.{ring_text}
 use Rattle.cut_listing.specs.CircuitCuts.{IsCutText}
 use Rattle.cut_listing.proofs.Accepted.{one_cut}
+use Rattle.refine_listing.specs.RefinedTexts.{IsRefinedText}
+use Rattle.refine_listing.proofs.RefinedOnce.{one_refined_text}
+use Rattle.circuit_dump.specs.Variables.{NamesNoLeaf}
+use Rattle.circuit_dump.specs.VcdTexts.{IsVcdText}
+use Rattle.circuit_dump.proofs.DumpsOnce.{one_dump}
 use Rattle.width_fit.specs.Fitting.{IsFittedCircuit}
 use Rattle.sim_engine.specs.Stages.{circuit_limit, IsAccepted}
 use Rattle.sim_engine.specs.Faults.{fault_place}
@@ -35,11 +40,9 @@ use Rattle.sim_engine.specs.declared.fault.CircuitFault.{CircuitFault}
 use Rattle.sim_engine.proofs.Accepting.{fitted_well_formed}
 use Rattle.sim_engine.proofs.Once.{one_fault, no_fault, accepted_once}
 use Rattle.sim_engine.proofs.Solving.{same_at, same_declared, same_modules, flagged}
-use Rattle.sim_top.specs.declared.words.Command.{Command}
-use Rattle.sim_top.specs.declared.words.Command.TheVariants.{Run, Check, Widths, Cut}
-use Rattle.sim_top.specs.Commands.{Question, Of_joined, Of_two, Of_made, asked_by}
-use Rattle.sim_top.specs.Texts.{IsPart, IsTaken, joined_limit, stimulus_limit}
-use Rattle.sim_top.specs.Answers.{fault_bytes, stimulus_bytes, Runs, stimulus_too_long, stimulus_refused, traced, JudgesTexts, refused, accepted, listed, divided, ran, Judges, joined_too_long, no_stimulus, circuit_too_long, taken, AnswersTo, of_joined, of_long_circuit, of_two, of_made, of_made_refused, Answers, no_command, answered}
+use Rattle.sim_top.specs.Commands.{Job, Run, Check, Widths, Cut, Refine, Vcd, Question, Of_joined, Of_two, Of_made, asked_by}
+use Rattle.sim_top.specs.Texts.{IsPart, IsTaken, joined_limit, reads_all, stimulus_limit}
+use Rattle.sim_top.specs.Answers.{fault_bytes, stimulus_bytes, RefusesStimulus, stimulus_too_long, stimulus_faulty, TakesStimulus, Runs, stimulus_refused, written, JudgesTexts, refused, accepted, listed, divided, refined, ran, watch_unknown, dumped, Judges, joined_too_long, no_stimulus, circuit_too_long, taken, AnswersTo, of_joined, of_long_circuit, of_two, of_made, of_made_refused, Answers, no_command, answered}
 use Rattle.sim_top.proofs.Splitting.{part_once, run_has_line}
 
 pub some_same : {A : Type 0} (x y : A) → Some x ≡ Some y → x ≡ y
@@ -61,15 +64,18 @@ listed_once text first second a o =
     same_listing first.checked.resolved first second a.clocked.driven.fits.types
     (subst (λ (x : Circuit). IsFittedCircuit x second) (sym same.0) o.clocked.driven.fits.types)
 
--- a stimulus has one trace
-abbrev HasOneTrace : Texts → Design → Type 0
-HasOneTrace texts design = (stimulus : Stimulus) (bytes other : List ℕ) → IsTraceText texts design stimulus bytes → IsTraceText texts design stimulus other → bytes ≡ other
+-- a stimulus has one trace, and one dump of the same words
+abbrev WritesOnce : (Stimulus → List ℕ → Type 0) → Type 0
+WritesOnce Writes = (stimulus : Stimulus) (bytes other : List ℕ) → Writes stimulus bytes → Writes stimulus other → bytes ≡ other
 
-one_trace : (text : List ℕ) (fitted : Fitted) → IsAccepted text fitted → HasOneTrace fitted.checked.resolved.names (design_of fitted)
+one_trace : (text : List ℕ) (fitted : Fitted) → IsAccepted text fitted → WritesOnce (IsTraceText fitted.checked.resolved.names (design_of fitted))
 one_trace text fitted a stimulus bytes other p q =
     let well = fitted_well_formed text fitted a.clocked.driven.fits in
     let rows = rows_once fitted well a.no_loop first_state (all_inputs (design_of fitted) stimulus) p.rows q.rows p.trace q.trace in
     p.is ∙ (ap (λ rs. header_of (watched_names fitted.checked.resolved.names (design_of fitted)) ++ flat_map line_of (enumerate_from 0 rs)) rows ∙ sym q.is)
+
+same_dump : (text : List ℕ) (fitted : Fitted) → IsAccepted text fitted → (names : List (List ℕ)) → WritesOnce (IsVcdText fitted.checked.resolved.names (design_of fitted) names)
+same_dump text fitted a names = one_dump fitted.checked.resolved.names fitted (fitted_well_formed text fitted a.clocked.driven.fits) a.no_loop names
 
 -- a run
 too_long : (n limit : ℕ) → limit < n → n ≤ limit → ⊥
@@ -81,31 +87,45 @@ same_stimulus_fault f g p q e is at = ap₂ stimulus_bytes e (some_same p q (sym
 abbrev FirstIn : List ℕ → StimFault → Ports → Type 0
 FirstIn text fault ports = IsFirst place_of rank_of (IsFault text ports) fault
 
-runs_once : (texts : Texts) (design : Design) → HasOneTrace texts design → (text : List ℕ) (s t : ℕ) (b d : List ℕ) → Runs texts design text s b → Runs texts design text t d → (s ≡ t) × (b ≡ d)
-runs_once texts design one text _ _ _ _ (stimulus_too_long l) (stimulus_too_long m) = (refl, refl)
-runs_once texts design one text _ _ _ _ (stimulus_too_long l) (stimulus_refused ports g q w p f at) = absurd (too_long (length text) stimulus_limit l w)
-runs_once texts design one text _ _ _ _ (stimulus_too_long l) (traced ports u d w p n i t) = absurd (too_long (length text) stimulus_limit l w)
-runs_once texts design one text _ _ _ _ (stimulus_refused ports g q w p f at) (stimulus_too_long l) = absurd (too_long (length text) stimulus_limit l w)
-runs_once texts design one text _ _ _ _ (traced ports u d w p n i t) (stimulus_too_long l) = absurd (too_long (length text) stimulus_limit l w)
-runs_once texts design one text _ _ _ _ (stimulus_refused ports f p w are is at) (stimulus_refused others g q v are' is' at') =
+one_refusal : (texts : Texts) (design : Design) (text b d : List ℕ) → RefusesStimulus texts design text b → RefusesStimulus texts design text d → b ≡ d
+one_refusal texts design text _ _ (stimulus_too_long l) (stimulus_too_long m) = refl
+one_refusal texts design text _ _ (stimulus_too_long l) (stimulus_faulty ports g q w p f at) = absurd (too_long (length text) stimulus_limit l w)
+one_refusal texts design text _ _ (stimulus_faulty ports g q w p f at) (stimulus_too_long l) = absurd (too_long (length text) stimulus_limit l w)
+one_refusal texts design text _ _ (stimulus_faulty ports f p w are is at) (stimulus_faulty others g q v are' is' at') =
     let same = ports_once texts design others ports are' are in
-    (refl, same_stimulus_fault f g p q (one_first place_of rank_of one_each f g is (subst (FirstIn text g) same is')) at at')
-runs_once texts design one text _ _ _ _ (stimulus_refused ports f p w are is at) (traced others u d v are' none i t) =
-    absurd (none f (subst (λ (x : Ports). IsFault text x f) (ports_once texts design ports others are are') is.is))
-runs_once texts design one text _ _ _ _ (traced others u d v are' none i t) (stimulus_refused ports f p w are is at) =
-    absurd (none f (subst (λ (x : Ports). IsFault text x f) (ports_once texts design ports others are are') is.is))
-runs_once texts design one text _ _ _ _ (traced ports u b w are n i t) (traced others v d x are' m j q) =
-    let same = ports_once texts design others ports are' are in
-    let one_stimulus = stimulus_once text ports v u (subst (λ (y : Ports). IsStimulus text y v) same j) i in
-    (refl, one u b d t (subst (λ y. IsTraceText texts design y d) one_stimulus q))
+    same_stimulus_fault f g p q (one_first place_of rank_of one_each f g is (subst (FirstIn text g) same is')) at at'
+
+refused_or_taken : (texts : Texts) (design : Design) (text b : List ℕ) (stimulus : Stimulus) → RefusesStimulus texts design text b → TakesStimulus texts design text stimulus → ⊥
+refused_or_taken texts design text _ stimulus (stimulus_too_long l) t = too_long (length text) stimulus_limit l t.within
+refused_or_taken texts design text _ stimulus (stimulus_faulty ports f p w are is at) t =
+    t.faultless f (subst (λ (x : Ports). IsFault text x f) (ports_once texts design ports t.ports are t.are_ports) is.is)
+
+taken_once : (texts : Texts) (design : Design) (text : List ℕ) (u v : Stimulus) → TakesStimulus texts design text u → TakesStimulus texts design text v → v ≡ u
+taken_once texts design text u v t o =
+    stimulus_once text t.ports v u (subst (λ (y : Ports). IsStimulus text y v) (ports_once texts design o.ports t.ports o.are_ports t.are_ports) o.is) t.is
+
+runs_once : (texts : Texts) (design : Design) (Writes : Stimulus → List ℕ → Type 0) → WritesOnce Writes → (text : List ℕ) (s t : ℕ) (b d : List ℕ) → Runs texts design Writes text s b
+    → Runs texts design Writes text t d → (s ≡ t) × (b ≡ d)
+runs_once texts design Writes one text _ _ b d (stimulus_refused _ r) (stimulus_refused _ q) = (refl, one_refusal texts design text b d r q)
+runs_once texts design Writes one text _ _ b d (stimulus_refused _ r) (written v _ o q) = absurd (refused_or_taken texts design text b v r o)
+runs_once texts design Writes one text _ _ b d (written u _ t p) (stimulus_refused _ r) = absurd (refused_or_taken texts design text d u r t)
+runs_once texts design Writes one text _ _ b d (written u _ t p) (written v _ o q) =
+    (refl, one u b d p (subst (λ y. Writes y d) (taken_once texts design text u v t o) q))
 
 -- where the circuit's text was taken
 same_fault : (f g : CircuitFault) (p q : Place) → f ≡ g → fault_place f ≡ Some p → fault_place g ≡ Some q → fault_bytes f p ≡ fault_bytes g q
 same_fault f g p q e is at = ap₂ fault_bytes e (some_same p q (sym is ∙ ap fault_place e ∙ at))
 
-texts_once : (command : Command) (text stimulus : List ℕ) (s t : ℕ) (b d : List ℕ) → JudgesTexts command text stimulus s b → JudgesTexts command text stimulus t d
+-- what is said of a fitted circuit holds of another one that the text was accepted as
+carried : (P : Texts → Design → Type 0) (text : List ℕ) (first second : Fitted) → IsAccepted text first → IsAccepted text second
+    → P first.checked.resolved.names (design_of first) → P second.checked.resolved.names (design_of second)
+carried P text first second a o p =
+    let same = accepted_once text first second a o in
+    subst (λ (x : Design). P second.checked.resolved.names x) same.1 (subst (λ (c : Circuit). P c.names (design_of first)) same.0 p)
+
+texts_once : (job : Job) (text stimulus : List ℕ) (s t : ℕ) (b d : List ℕ) → JudgesTexts job text stimulus s b → JudgesTexts job text stimulus t d
     → (s ≡ t) × (b ≡ d)
-texts_once command text stimulus _ _ _ _ (refused _ _ _ f p is at) (refused _ _ _ g q is' at') = (refl, same_fault f g p q (one_fault text f g is is') at at')
+texts_once job text stimulus _ _ _ _ (refused _ _ _ f p is at) (refused _ _ _ g q is' at') = (refl, same_fault f g p q (one_fault text f g is is') at at')
 texts_once Check text stimulus _ _ _ _ (refused _ _ _ f p is at) (accepted _ _ fitted a) = absurd (no_fault text f fitted is a)
 texts_once Check text stimulus _ _ _ _ (accepted _ _ fitted a) (refused _ _ _ f p is at) = absurd (no_fault text f fitted is a)
 texts_once Check text stimulus _ _ _ _ (accepted _ _ fitted a) (accepted _ _ other o) = (refl, refl)
@@ -115,23 +135,36 @@ texts_once Widths text stimulus _ _ _ _ (listed _ _ fitted a) (listed _ _ other 
 texts_once (Cut workers) text stimulus _ _ _ _ (refused _ _ _ f p is at) (divided _ _ _ fitted _ a cuts) = absurd (no_fault text f fitted is a)
 texts_once (Cut workers) text stimulus _ _ _ _ (divided _ _ _ fitted _ a cuts) (refused _ _ _ f p is at) = absurd (no_fault text f fitted is a)
 texts_once (Cut workers) text stimulus _ _ b d (divided _ _ _ fitted _ a cuts) (divided _ _ _ other _ o others) =
-    let same = accepted_once text other fitted o a in
-    let here : IsCutText fitted.checked.resolved.names (design_of fitted) workers d =
-    subst (λ (x : Design). IsCutText fitted.checked.resolved.names x workers d) same.1 (subst (λ (c : Circuit). IsCutText c.names (design_of other) workers d) same.0 others) in
+    let here = carried (λ texts design. IsCutText texts design workers d) text other fitted o a others in
     (refl, one_cut fitted.checked.resolved.names fitted (fitted_well_formed text fitted a.clocked.driven.fits) workers b d cuts here)
+texts_once (Refine workers) text stimulus _ _ _ _ (refused _ _ _ f p is at) (refined _ _ _ fitted _ a cuts) = absurd (no_fault text f fitted is a)
+texts_once (Refine workers) text stimulus _ _ _ _ (refined _ _ _ fitted _ a cuts) (refused _ _ _ f p is at) = absurd (no_fault text f fitted is a)
+texts_once (Refine workers) text stimulus _ _ b d (refined _ _ _ fitted _ a cuts) (refined _ _ _ other _ o others) =
+    let here = carried (λ texts design. IsRefinedText texts design workers d) text other fitted o a others in
+    (refl, one_refined_text fitted.checked.resolved.names fitted (fitted_well_formed text fitted a.clocked.driven.fits) workers b d cuts here)
 texts_once Run text stimulus _ _ _ _ (refused _ _ _ f p is at) (ran _ _ fitted _ _ a r) = absurd (no_fault text f fitted is a)
 texts_once Run text stimulus _ _ _ _ (ran _ _ fitted _ _ a r) (refused _ _ _ f p is at) = absurd (no_fault text f fitted is a)
 texts_once Run text stimulus s t b d (ran _ _ fitted _ _ a r) (ran _ _ other _ _ o q) =
-    let same = accepted_once text other fitted o a in
-    let here : Runs fitted.checked.resolved.names (design_of fitted) stimulus t d =
-    subst (λ (x : Design). Runs fitted.checked.resolved.names x stimulus t d) same.1 (subst (λ (c : Circuit). Runs c.names (design_of other) stimulus t d) same.0 q) in
-    runs_once fitted.checked.resolved.names (design_of fitted) (one_trace text fitted a) stimulus s t b d r here
+    let here = carried (λ texts design. Runs texts design (IsTraceText texts design) stimulus t d) text other fitted o a q in
+    runs_once fitted.checked.resolved.names (design_of fitted) (IsTraceText fitted.checked.resolved.names (design_of fitted)) (one_trace text fitted a) stimulus s t b d r here
+texts_once (Vcd names) text stimulus _ _ _ _ (refused _ _ _ f p is at) (watch_unknown _ _ _ fitted a none) = absurd (no_fault text f fitted is a)
+texts_once (Vcd names) text stimulus _ _ _ _ (refused _ _ _ f p is at) (dumped _ _ _ fitted _ _ a known r) = absurd (no_fault text f fitted is a)
+texts_once (Vcd names) text stimulus _ _ _ _ (watch_unknown _ _ _ fitted a none) (refused _ _ _ f p is at) = absurd (no_fault text f fitted is a)
+texts_once (Vcd names) text stimulus _ _ _ _ (watch_unknown _ _ _ fitted a none) (watch_unknown _ _ _ other o nothing) = (refl, refl)
+texts_once (Vcd names) text stimulus _ _ _ _ (watch_unknown _ _ _ fitted a none) (dumped _ _ _ other _ _ o known r) =
+    absurd (known (carried (λ texts design. NamesNoLeaf texts design names) text fitted other a o none))
+texts_once (Vcd names) text stimulus _ _ _ _ (dumped _ _ _ fitted _ _ a known r) (refused _ _ _ f p is at) = absurd (no_fault text f fitted is a)
+texts_once (Vcd names) text stimulus _ _ _ _ (dumped _ _ _ fitted _ _ a known r) (watch_unknown _ _ _ other o none) =
+    absurd (known (carried (λ texts design. NamesNoLeaf texts design names) text other fitted o a none))
+texts_once (Vcd names) text stimulus s t b d (dumped _ _ _ fitted _ _ a known r) (dumped _ _ _ other _ _ o knows q) =
+    let here = carried (λ texts design. Runs texts design (IsVcdText texts design names) stimulus t d) text other fitted o a q in
+    runs_once fitted.checked.resolved.names (design_of fitted) (IsVcdText fitted.checked.resolved.names (design_of fitted) names) (same_dump text fitted a names) stimulus s t b d r here
 
--- what a command answers to a text
-other_part : (command : Command) (joined circuit stimulus : List ℕ) → IsPart command joined circuit stimulus → circuit_limit < length circuit
-    → (other more : List ℕ) → IsTaken command joined other more → ⊥
-other_part command joined circuit stimulus p l other more t =
-    let e = (part_once command joined circuit stimulus other more p t.part).0 in
+-- what is answered to a text
+other_part : (job : Job) (joined circuit stimulus : List ℕ) → IsPart job joined circuit stimulus → circuit_limit < length circuit
+    → (other more : List ℕ) → IsTaken job joined other more → ⊥
+other_part job joined circuit stimulus p l other more t =
+    let e = (part_once job joined circuit stimulus other more p t.part).0 in
     let h = t.short in
     let k : length circuit ≡ length other = ap length e in omega (arith, l, h, k)
 
@@ -140,26 +173,26 @@ too_long_here : (texts : List ℕ → Option (List ℕ)) (name text other : List
 too_long_here texts name text other h k l m =
     let same : length text ≡ length other = ap length (some_same text other (sym h ∙ k)) in omega (arith, l, m, same)
 
-judged_once : (command : Command) (joined : List ℕ) (s t : ℕ) (b d : List ℕ) → Judges command joined s b → Judges command joined t d
+judged_once : (job : Job) (joined : List ℕ) (s t : ℕ) (b d : List ℕ) → Judges job joined s b → Judges job joined t d
     → (s ≡ t) × (b ≡ d)
-judged_once command joined _ _ _ _ (joined_too_long _ _ l) (joined_too_long _ _ m) = (refl, refl)
-judged_once Run joined _ _ _ _ (joined_too_long _ _ l) (no_stimulus _ w n) = absurd (too_long (length joined) joined_limit l w)
-judged_once command joined _ _ _ _ (joined_too_long _ _ l) (circuit_too_long _ _ circuit stimulus w p m) = (refl, refl)
-judged_once command joined _ _ _ _ (joined_too_long _ _ l) (taken _ _ circuit stimulus _ _ k j) = absurd (too_long (length joined) joined_limit l k.within)
-judged_once Run joined _ _ _ _ (no_stimulus _ w n) (joined_too_long _ _ m) = absurd (too_long (length joined) joined_limit m w)
-judged_once Run joined _ _ _ _ (no_stimulus _ w n) (no_stimulus _ v m) = (refl, refl)
-judged_once Run joined _ _ _ _ (no_stimulus _ w n) (circuit_too_long _ _ circuit stimulus v p m) = absurd (run_has_line joined circuit stimulus p n)
-judged_once Run joined _ _ _ _ (no_stimulus _ w n) (taken _ _ circuit stimulus _ _ k j) = absurd (run_has_line joined circuit stimulus k.part n)
-judged_once command joined _ _ _ _ (circuit_too_long _ _ circuit stimulus w p l) (joined_too_long _ _ m) = (refl, refl)
-judged_once Run joined _ _ _ _ (circuit_too_long _ _ circuit stimulus w p l) (no_stimulus _ v n) = absurd (run_has_line joined circuit stimulus p n)
-judged_once command joined _ _ _ _ (circuit_too_long _ _ circuit stimulus w p l) (circuit_too_long _ _ other more v q m) = (refl, refl)
-judged_once command joined _ _ _ _ (circuit_too_long _ _ circuit stimulus w p l) (taken _ _ other more _ _ k j) = absurd (other_part command joined circuit stimulus p l other more k)
-judged_once command joined _ _ _ _ (taken _ _ circuit stimulus _ _ k j) (joined_too_long _ _ m) = absurd (too_long (length joined) joined_limit m k.within)
-judged_once Run joined _ _ _ _ (taken _ _ circuit stimulus _ _ k j) (no_stimulus _ v n) = absurd (run_has_line joined circuit stimulus k.part n)
-judged_once command joined _ _ _ _ (taken _ _ circuit stimulus _ _ k j) (circuit_too_long _ _ other more v q m) = absurd (other_part command joined other more q m circuit stimulus k)
-judged_once command joined s t b d (taken _ _ circuit stimulus _ _ k j) (taken _ _ other more _ _ h i) =
-    let e = part_once command joined other more circuit stimulus h.part k.part in
-    texts_once command circuit stimulus s t b d j (subst (λ x. JudgesTexts command circuit x t d) e.1 (subst (λ x. JudgesTexts command x more t d) e.0 i))
+judged_once job joined _ _ _ _ (joined_too_long _ _ l) (joined_too_long _ _ m) = (refl, refl)
+judged_once job joined _ _ _ _ (joined_too_long _ _ l) (no_stimulus _ _ runs w n) = absurd (too_long (length joined) joined_limit l w)
+judged_once job joined _ _ _ _ (joined_too_long _ _ l) (circuit_too_long _ _ circuit stimulus w p m) = (refl, refl)
+judged_once job joined _ _ _ _ (joined_too_long _ _ l) (taken _ _ circuit stimulus _ _ k j) = absurd (too_long (length joined) joined_limit l k.within)
+judged_once job joined _ _ _ _ (no_stimulus _ _ runs w n) (joined_too_long _ _ m) = absurd (too_long (length joined) joined_limit m w)
+judged_once job joined _ _ _ _ (no_stimulus _ _ runs w n) (no_stimulus _ _ more v m) = (refl, refl)
+judged_once job joined _ _ _ _ (no_stimulus _ _ runs w n) (circuit_too_long _ _ circuit stimulus v p m) = absurd (run_has_line job joined circuit stimulus runs p n)
+judged_once job joined _ _ _ _ (no_stimulus _ _ runs w n) (taken _ _ circuit stimulus _ _ k j) = absurd (run_has_line job joined circuit stimulus runs k.part n)
+judged_once job joined _ _ _ _ (circuit_too_long _ _ circuit stimulus w p l) (joined_too_long _ _ m) = (refl, refl)
+judged_once job joined _ _ _ _ (circuit_too_long _ _ circuit stimulus w p l) (no_stimulus _ _ runs v n) = absurd (run_has_line job joined circuit stimulus runs p n)
+judged_once job joined _ _ _ _ (circuit_too_long _ _ circuit stimulus w p l) (circuit_too_long _ _ other more v q m) = (refl, refl)
+judged_once job joined _ _ _ _ (circuit_too_long _ _ circuit stimulus w p l) (taken _ _ other more _ _ k j) = absurd (other_part job joined circuit stimulus p l other more k)
+judged_once job joined _ _ _ _ (taken _ _ circuit stimulus _ _ k j) (joined_too_long _ _ m) = absurd (too_long (length joined) joined_limit m k.within)
+judged_once job joined _ _ _ _ (taken _ _ circuit stimulus _ _ k j) (no_stimulus _ _ runs v n) = absurd (run_has_line job joined circuit stimulus runs k.part n)
+judged_once job joined _ _ _ _ (taken _ _ circuit stimulus _ _ k j) (circuit_too_long _ _ other more v q m) = absurd (other_part job joined other more q m circuit stimulus k)
+judged_once job joined s t b d (taken _ _ circuit stimulus _ _ k j) (taken _ _ other more _ _ h i) =
+    let e = part_once job joined other more circuit stimulus h.part k.part in
+    texts_once job circuit stimulus s t b d j (subst (λ x. JudgesTexts job circuit x t d) e.1 (subst (λ x. JudgesTexts job x more t d) e.0 i))
 
 -- what a text that is made answers
 two_summaries : (joined trace other b d : List ℕ) → Judges Run joined 0 trace → Judges Run joined 0 other → IsSummary trace b → IsSummary other d → b ≡ d
@@ -172,9 +205,9 @@ no_summary joined trace s d j i n = n (judged_once Run joined s 0 d trace i j).0
 -- what is asked
 asked_once : (texts : List ℕ → Option (List ℕ)) (question : Question) (s t : ℕ) (b d : List ℕ) → AnswersTo texts question s b → AnswersTo texts question t d
     → (s ≡ t) × (b ≡ d)
-asked_once texts (Of_joined command name) s t b d (of_joined _ _ joined _ _ h j) (of_joined _ _ text _ _ k i) =
+asked_once texts (Of_joined job name) s t b d (of_joined _ _ joined _ _ h j) (of_joined _ _ text _ _ k i) =
     let x : text ≡ joined = some_same text joined (sym k ∙ h) in
-    judged_once command joined s t b d j (subst (λ y. Judges command y t d) x i)
+    judged_once job joined s t b d j (subst (λ y. Judges job y t d) x i)
 asked_once texts (Of_two circuit stimulus) _ _ _ _ (of_long_circuit _ _ text h l) (of_long_circuit _ _ other k m) = (refl, refl)
 asked_once texts (Of_two circuit stimulus) _ _ _ _ (of_long_circuit _ _ text h l) (of_two _ _ other given _ _ k m g j) = absurd (too_long_here texts circuit text other h k l m)
 asked_once texts (Of_two circuit stimulus) _ _ _ _ (of_two _ _ other given _ _ k m g j) (of_long_circuit _ _ text h l) = absurd (too_long_here texts circuit text other h k l m)

@@ -1,16 +1,21 @@
 -- What a command answers, from what the text is.
-use Rattle.std.proofs.Common.{◌≡◌, ◌≢◌, ℕ, ◌<◌, ◌≤◌, List, ◌⊎◌, ⊎_elim, length, sym, ap, ◌∙◌, subst, arith}
+use Rattle.std.proofs.Common.{◌≡◌, ◌≢◌, ℕ, ◌<◌, ◌≤◌, Bool, true, false, List, ◌⊎◌, ⊎_elim, length, sym, ap, ◌∙◌, subst, arith}
 use Rattle.std.specs.Prelude.{Some, None, Result, Ok, Err, codes}
 use Rattle.place_text.specs.declared.place.Place.{Place}
 use Rattle.place_text.specs.Places.{first_place}
 use Rattle.fault_order.specs.Verdicts.{IsVerdict}
 use Rattle.fir_meaning.specs.Components.{design_of}
+use Rattle.ground_net.specs.declared.net.Net.{Net}
 use Rattle.stimulus.specs.declared.stimulus.Stimulus.{Stimulus}
 use Rattle.stimulus.specs.declared.fault.StimFault.{StimFault}
 use Rattle.stimulus.specs.Faults.{IsFault, place_of, rank_of}
-use Rattle.stimulus.specs.Stimuli.{IsStimulus}
+use Rattle.stimulus.specs.Stimuli.{IsFormed, IsStimulus}
 use Rattle.cut_listing.specs.CircuitCuts.{IsCutText}
+use Rattle.refine_listing.specs.RefinedTexts.{IsRefinedText}
+use Rattle.circuit_dump.specs.Variables.{NamesNoLeaf}
+use Rattle.circuit_dump.specs.NetNames.{AreNumbersOf}
 use Rattle.circuit_run.specs.Ports.{ArePortsOf}
+use Rattle.circuit_run.specs.Traces.{IsTraceText}
 use Rattle.circuit_run.proofs.Parts.{ports_of_circuit}
 use Rattle.trace_print.specs.Listing.{listing_of}
 use Rattle.sim_engine.specs.Stages.{circuit_limit, IsFirstFault}
@@ -20,51 +25,63 @@ use Rattle.sim_engine.specs.declared.compile.Built.{Built}
 use Rattle.sim_engine.specs.declared.fault.CircuitFault.{CircuitFault}
 use Rattle.sim_engine.specs.declared.fault.CircuitFault.TheVariants.{NoMemory}
 use Rattle.sim_top.specs.declared.words.Command.{Command}
-use Rattle.sim_top.specs.declared.words.Command.TheVariants.{Run, Check, Widths, Cut}
-use Rattle.sim_top.specs.declared.texts.WholeFault.TheVariants.{TooLong, NoStimulus}
+use Rattle.sim_top.specs.declared.words.Command.TheVariants as asked
+use Rattle.sim_top.specs.declared.texts.WholeFault.TheVariants.{TooLong, NoStimulus, WatchUnknown}
+use Rattle.sim_top.specs.declared.judge.Reply.{Reply}
 use Rattle.sim_top.specs.declared.judge.Decision.{Decision}
 use Rattle.sim_top.specs.declared.judge.Decision.TheVariants as decision
-use Rattle.sim_top.specs.Texts.{HasNone, IsPart, joined_limit, stimulus_limit}
-use Rattle.sim_top.specs.Answers.{fault_bytes, whole_bytes, stimulus_bytes, whole_stimulus_bytes, Runs, stimulus_too_long, stimulus_refused, traced, JudgesTexts, refused, accepted, listed, divided, ran, Judges, no_stimulus, circuit_too_long, taken}
-use Rattle.sim_top.specs.Endings.{Gives}
+use Rattle.sim_top.specs.Commands.{Job, Run, Check, Widths, Cut, Refine, Vcd, job}
+use Rattle.sim_top.specs.Texts.{HasNone, IsPart, joined_limit, reads_all, stimulus_limit}
+use Rattle.sim_top.specs.Answers.{fault_bytes, whole_bytes, stimulus_bytes, whole_stimulus_bytes, RefusesStimulus, stimulus_too_long, stimulus_faulty, TakesStimulus, Runs, stimulus_refused, written, JudgesTexts, refused, accepted, listed, divided, refined, ran, watch_unknown, dumped, Judges, no_stimulus, circuit_too_long, taken}
+use Rattle.sim_top.specs.Endings.{Gives, IsFor}
+
+-- what a decision has, it has of all that this is true of
+pub gives_more : (P Q : ℕ → List ℕ → Type 0) → ((s : ℕ) (b : List ℕ) → P s b → Q s b) → (d : Decision) → Gives P d → Gives Q d
+gives_more P Q more (decision.Say reply) g = more _ _ g
+gives_more P Q more (decision.Run built settings watched) g = λ bytes t. more 0 bytes (g bytes t)
+gives_more P Q more (decision.Dump built settings numbers) g =
+    record { names = g.names; numbered = g.numbered; dumped = λ bytes t. more 0 bytes (g.dumped bytes t) }
 
 -- the parts of a joined text, the circuit's within its limit
-pub gives_part : (command : Command) (joined circuit stimulus : List ℕ) (d : Decision) → length joined ≤ joined_limit → IsPart command joined circuit stimulus
-    → length circuit ≤ circuit_limit → Gives (JudgesTexts command circuit stimulus) d → Gives (Judges command joined) d
-gives_part command joined circuit stimulus (decision.Say reply) within part short j =
-    taken command joined circuit stimulus _ _ (record { within = within; part = part; short = short }) j
-gives_part command joined circuit stimulus (decision.Run built settings watched) within part short j =
-    λ bytes t. taken command joined circuit stimulus _ _ (record { within = within; part = part; short = short }) (j bytes t)
+pub gives_part : (k : Job) (joined circuit stimulus : List ℕ) (d : Decision) → length joined ≤ joined_limit → IsPart k joined circuit stimulus
+    → length circuit ≤ circuit_limit → Gives (JudgesTexts k circuit stimulus) d → Gives (Judges k joined) d
+gives_part k joined circuit stimulus d within part short j = gives_more (JudgesTexts k circuit stimulus) (Judges k joined)
+    (λ s b. taken k joined circuit stimulus s b (record { within = within; part = part; short = short })) d j
 
-pub long_part : (command : Command) (joined circuit stimulus : List ℕ) → length joined ≤ joined_limit → IsPart command joined circuit stimulus → circuit_limit < length circuit
-    → (status : ℕ) (bytes : List ℕ) → status ≡ 2 → bytes ≡ whole_bytes TooLong first_place → Judges command joined status bytes
-long_part command joined circuit stimulus within part long status bytes two e = rw (two, e) (circuit_too_long command joined circuit stimulus within part long)
+pub long_part : (k : Job) (joined circuit stimulus : List ℕ) → length joined ≤ joined_limit → IsPart k joined circuit stimulus → circuit_limit < length circuit
+    → (status : ℕ) (bytes : List ℕ) → status ≡ 2 → bytes ≡ whole_bytes TooLong first_place → Judges k joined status bytes
+long_part k joined circuit stimulus within part long status bytes two e = rw (two, e) (circuit_too_long k joined circuit stimulus within part long)
 
-pub lacks_line : (joined : List ℕ) → length joined ≤ joined_limit → HasNone joined → (status : ℕ) (bytes : List ℕ) → status ≡ 2 → bytes ≡ whole_bytes NoStimulus first_place
-    → Judges Run joined status bytes
-lacks_line joined within none status bytes two e = rw (two, e) (no_stimulus joined within none)
+-- what `refuse_unstimulated` answers
+abbrev pub IsUnstimulated : Decision → Type 0
+IsUnstimulated d = (reply : Reply) × (d ≡ decision.Say reply) × (reply.status ≡ 2) × (reply.bytes.items ≡ whole_bytes NoStimulus first_place)
+
+pub lacks_line : (command : Command) (k : Command) (joined : List ℕ) → command ≡ k → reads_all (job k) ≡ false → length joined ≤ joined_limit → HasNone joined → (d : Decision)
+    → IsUnstimulated d → Gives (Judges (job command) joined) d
+lacks_line command k joined is runs within none d u =
+    let said : Judges (job command) joined u.0.status u.0.bytes.items =
+    rw (u.2, u.3) (no_stimulus (job command) joined (ap (λ c. reads_all (job c)) is ∙ runs) within none) in
+    subst (Gives (Judges (job command) joined)) (sym u.1) said
+
+pub unstimulated_fits : (j : Job) (d : Decision) → IsUnstimulated d → IsFor j d
+unstimulated_fits j d u = subst (IsFor j) (sym u.1) (λ run zero. let two = u.2 in omega (arith, two, zero))
 
 -- of a run no reply has the status 0
-pub no_trace : (command : Command) (status n : ℕ) → 1 ≤ n → status ≡ n → command ≡ Run → status ≢ 0
-no_trace command status n some e run zero = omega (arith, some, e, zero)
+pub no_trace : (j : Job) (status n : ℕ) → 1 ≤ n → status ≡ n → j ≡ Run → status ≢ 0
+no_trace j status n some e run zero = omega (arith, some, e, zero)
 
-pub no_run_check : (command : Command) (status : ℕ) → command ≡ Check → command ≡ Run → status ≢ 0
-no_run_check command status check run zero = let e : Check ≡ Run = sym check ∙ run in cc
-
-pub no_run_widths : (command : Command) (status : ℕ) → command ≡ Widths → command ≡ Run → status ≢ 0
-no_run_widths command status widths run zero = let e : Widths ≡ Run = sym widths ∙ run in cc
-
-pub no_run_cut : (command : Command) (status workers : ℕ) → command ≡ Cut workers → command ≡ Run → status ≢ 0
-no_run_cut command status workers cut run zero = let e : Cut workers ≡ Run = sym cut ∙ run in cc
+-- a job that doesn't run the circuit is no run
+pub no_run : (k : Job) (status : ℕ) → reads_all k ≡ true → k ≡ Run → status ≢ 0
+no_run k status unrun run zero = let e : true ≡ false = sym unrun ∙ ap reads_all run in cc
 
 -- a fault that has a place isn't want of memory
-pub refused_from : (command : Command) (text stimulus : List ℕ) (fault : CircuitFault) (place : Place) (status : ℕ) (bytes : List ℕ) → (fault ≡ NoMemory) ⊎ IsFirstFault text fault
-    → fault_place fault ≡ Some place → status ≡ 2 → bytes ≡ fault_bytes fault place → JudgesTexts command text stimulus status bytes
-refused_from command text stimulus fault place status bytes found at two e = rw (two, e)
+pub refused_from : (j : Job) (text stimulus : List ℕ) (fault : CircuitFault) (place : Place) (status : ℕ) (bytes : List ℕ) → (fault ≡ NoMemory) ⊎ IsFirstFault text fault
+    → fault_place fault ≡ Some place → status ≡ 2 → bytes ≡ fault_bytes fault place → JudgesTexts j text stimulus status bytes
+refused_from j text stimulus fault place status bytes found at two e = rw (two, e)
     (⊎_elim (λ m. absurd (let n : None ≡ Some place = sym (ap fault_place m) ∙ at in cc))
-    (λ f. refused command text stimulus fault place f at) found)
+    (λ f. refused j text stimulus fault place f at) found)
 
--- what `check`, `widths` and `cut` answer to what was built
+-- what `check`, `widths`, `cut` and `refine` answer to what was built
 pub checked : (text stimulus : List ℕ) (built : Built) (status : ℕ) (bytes : List ℕ) → IsBuilt text built → status ≡ 0 → bytes ≡ codes "ok\n" → JudgesTexts Check text stimulus status bytes
 checked text stimulus built status bytes b zero e =
     rw (zero, e) (accepted text stimulus built.fitted b.accepted)
@@ -79,30 +96,101 @@ pub divided_of : (workers : ℕ) (text stimulus : List ℕ) (built : Built) (sta
 divided_of workers text stimulus built status bytes b zero cuts =
     rw zero (divided workers text stimulus built.fitted bytes b.accepted cuts)
 
--- a run of what was built
-ran_of : (text stimulus : List ℕ) (built : Built) (status : ℕ) (bytes : List ℕ) → IsBuilt text built
-    → Runs built.fitted.checked.resolved.names (design_of built.fitted) stimulus status bytes → JudgesTexts Run text stimulus status bytes
-ran_of text stimulus built status bytes b r = ran text stimulus built.fitted status bytes b.accepted r
+pub refined_of : (workers : ℕ) (text stimulus : List ℕ) (built : Built) (status : ℕ) (bytes : List ℕ) → IsBuilt text built → status ≡ 0
+    → IsRefinedText built.fitted.checked.resolved.names (design_of built.fitted) workers bytes → JudgesTexts (Refine workers) text stimulus status bytes
+refined_of workers text stimulus built status bytes b zero cuts =
+    rw zero (refined workers text stimulus built.fitted bytes b.accepted cuts)
+
+-- a reply is what is answered to each text of what was built
+abbrev pub Replies : Job → Built → Reply → Type 0
+Replies k built r = (text stimulus : List ℕ) → IsBuilt text built → JudgesTexts k text stimulus r.status r.bytes.items
+
+replies_for : (command k : Command) (built : Built) (r : Reply) → command ≡ k → Replies (job k) built r → Replies (job command) built r
+replies_for command k built r is replies = subst (λ x. Replies (job x) built r) (sym is) replies
+
+pub replies_check : (command : Command) (built : Built) → command ≡ asked.Check → (r : Reply) → (r.status ≡ 0) × (r.bytes.items ≡ codes "ok\n") → Replies (job command) built r
+replies_check command built is r h = replies_for command asked.Check built r is (λ text stimulus b. checked text stimulus built r.status r.bytes.items b h.0 h.1)
+
+pub replies_widths : (command : Command) (built : Built) → command ≡ asked.Widths → (r : Reply) → (r.status ≡ 0) × (r.bytes.items ≡ listing_of built.fitted) → Replies (job command) built r
+replies_widths command built is r h = replies_for command asked.Widths built r is (λ text stimulus b. widths text stimulus built r.status r.bytes.items b h.0 h.1)
+
+pub replies_cut : (command : Command) (workers : ℕ) (built : Built) → command ≡ asked.Cut workers → (r : Reply)
+    → (r.status ≡ 0) × IsCutText built.fitted.checked.resolved.names (design_of built.fitted) workers r.bytes.items → Replies (job command) built r
+replies_cut command workers built is r h =
+    replies_for command (asked.Cut workers) built r is (λ text stimulus b. divided_of workers text stimulus built r.status r.bytes.items b h.0 h.1)
+
+pub replies_refine : (command : Command) (workers : ℕ) (built : Built) → command ≡ asked.Refine workers → (r : Reply)
+    → (r.status ≡ 0) × IsRefinedText built.fitted.checked.resolved.names (design_of built.fitted) workers r.bytes.items → Replies (job command) built r
+replies_refine command workers built is r h =
+    replies_for command (asked.Refine workers) built r is (λ text stimulus b. refined_of workers text stimulus built r.status r.bytes.items b h.0 h.1)
+
+-- what is decided for each stimulus, for one
+pub gives_here : (k : Job) (built : Built) (stimulus : List ℕ) (d : Decision) → ((text given : List ℕ) → IsBuilt text built → Gives (JudgesTexts k text given) d)
+    → (text : List ℕ) → IsBuilt text built → Gives (JudgesTexts k text stimulus) d
+gives_here k built stimulus d h text = h text stimulus
+
+-- the stimulus's text, over the ports of what was built
+abbrev pub Refuses : Built → List ℕ → List ℕ → Type 0
+Refuses built = RefusesStimulus built.fitted.checked.resolved.names (design_of built.fitted)
+
+abbrev pub Takes : Built → List ℕ → Stimulus → Type 0
+Takes built = TakesStimulus built.fitted.checked.resolved.names (design_of built.fitted)
 
 ports_are : (text : List ℕ) (built : Built) → IsBuilt text built → ArePortsOf built.fitted.checked.resolved.names (design_of built.fitted) built.ports
 ports_are text built b = ports_of_circuit built.fitted.checked.resolved.names (design_of built.fitted) built.ordered.net b.ordered.serves built.ports b.inputs b.watched b.names
 
-pub ran_long : (text stimulus : List ℕ) (built : Built) (status : ℕ) (bytes : List ℕ) → IsBuilt text built → stimulus_limit < length stimulus → status ≡ 3
-    → bytes ≡ whole_stimulus_bytes TooLong first_place → JudgesTexts Run text stimulus status bytes
-ran_long text stimulus built status bytes b long three e = rw (three, e) (ran_of text stimulus built _ _ b (stimulus_too_long long))
+pub refuses_long : (built : Built) (stimulus bytes : List ℕ) → stimulus_limit < length stimulus → bytes ≡ whole_stimulus_bytes TooLong first_place → Refuses built stimulus bytes
+refuses_long built stimulus bytes long e = rw e (stimulus_too_long long)
 
 -- what the reading of the stimulus answered
 abbrev pub IsRead : List ℕ → Built → Result Stimulus StimFault → Type 0
 IsRead stimulus built result = IsVerdict place_of rank_of (IsFault stimulus built.ports) (IsStimulus stimulus built.ports) result
 
-pub ran_refused : (text stimulus : List ℕ) (built : Built) (fault : StimFault) (place : Place) (status : ℕ) (bytes : List ℕ) → IsBuilt text built
-    → length stimulus ≤ stimulus_limit → IsRead stimulus built (Err fault) → place_of fault ≡ Some place → status ≡ 3
-    → bytes ≡ stimulus_bytes fault place → JudgesTexts Run text stimulus status bytes
-ran_refused text stimulus built fault place status bytes b short v at three e = rw (three, e)
+pub refuses_fault : (text stimulus : List ℕ) (built : Built) (fault : StimFault) (place : Place) (bytes : List ℕ) → IsBuilt text built → length stimulus ≤ stimulus_limit
+    → IsRead stimulus built (Err fault) → place_of fault ≡ Some place → bytes ≡ stimulus_bytes fault place → Refuses built stimulus bytes
+refuses_fault text stimulus built fault place bytes b short v at e = rw e
     (⊎_elim (λ m. absurd (let n : None ≡ Some place = sym m ∙ at in cc))
-    (λ f. ran_of text stimulus built _ _ b (stimulus_refused built.ports fault place short (ports_are text built b) f at)) v.fault)
+    (λ f. stimulus_faulty built.ports fault place short (ports_are text built b) f at) v.fault)
 
-pub ran_traced : (text stimulus : List ℕ) (built : Built) (settings : Stimulus) (watched : List ℕ) → IsBuilt text built → length stimulus ≤ stimulus_limit
-    → IsRead stimulus built (Ok settings) → Gives (JudgesTexts Run text stimulus) (decision.Run built settings watched)
-ran_traced text stimulus built settings watched b short v = λ bytes t.
-    ran_of text stimulus built 0 bytes b (traced built.ports settings bytes short (ports_are text built b) v.none v.ok t)
+pub takes_read : (text stimulus : List ℕ) (built : Built) (settings : Stimulus) → IsBuilt text built → length stimulus ≤ stimulus_limit → IsRead stimulus built (Ok settings)
+    → Takes built stimulus settings
+takes_read text stimulus built settings b short v =
+    record { within = short; ports = built.ports; are_ports = ports_are text built b; faultless = v.none; is = v.ok }
+
+-- a run of what was built
+pub ran_refused : (text stimulus : List ℕ) (built : Built) (status : ℕ) (bytes : List ℕ) → IsBuilt text built → status ≡ 3 → Refuses built stimulus bytes
+    → JudgesTexts Run text stimulus status bytes
+ran_refused text stimulus built status bytes b three r = rw three (ran text stimulus built.fitted 3 bytes b.accepted (stimulus_refused bytes r))
+
+pub ran_long : (text stimulus : List ℕ) (built : Built) (status : ℕ) (bytes : List ℕ) → IsBuilt text built → stimulus_limit < length stimulus → status ≡ 3
+    → bytes ≡ whole_stimulus_bytes TooLong first_place → JudgesTexts Run text stimulus status bytes
+ran_long text stimulus built status bytes b long three e = ran_refused text stimulus built status bytes b three (refuses_long built stimulus bytes long e)
+
+pub ran_traced : (text stimulus : List ℕ) (built : Built) (settings : Stimulus) (watched : List ℕ) → IsBuilt text built → Takes built stimulus settings
+    → Gives (JudgesTexts Run text stimulus) (decision.Run built settings watched)
+ran_traced text stimulus built settings watched b takes = λ bytes t.
+    ran text stimulus built.fitted 0 bytes b.accepted (written settings bytes takes t)
+
+-- a dump of what was built
+abbrev pub NamesNone : Built → List (List ℕ) → Type 0
+NamesNone built = NamesNoLeaf built.fitted.checked.resolved.names (design_of built.fitted)
+
+pub dump_unknown : (names : List (List ℕ)) (text stimulus : List ℕ) (built : Built) (status : ℕ) (bytes : List ℕ) → IsBuilt text built → NamesNone built names → status ≡ 2
+    → bytes ≡ whole_bytes WatchUnknown first_place → JudgesTexts (Vcd names) text stimulus status bytes
+dump_unknown names text stimulus built status bytes b none two e = rw (two, e) (watch_unknown names text stimulus built.fitted b.accepted none)
+
+pub dump_refused : (names : List (List ℕ)) (text stimulus : List ℕ) (built : Built) (status : ℕ) (bytes : List ℕ) → IsBuilt text built → (NamesNone built names → ⊥) → status ≡ 3
+    → Refuses built stimulus bytes → JudgesTexts (Vcd names) text stimulus status bytes
+dump_refused names text stimulus built status bytes b known three r =
+    rw three (dumped names text stimulus built.fitted 3 bytes b.accepted known (stimulus_refused bytes r))
+
+pub dump_taken : (names : List (List ℕ)) (text stimulus : List ℕ) (built : Built) (settings : Stimulus) (numbers : List ℕ) → IsBuilt text built → (NamesNone built names → ⊥)
+    → AreNumbersOf built.ordered.net names numbers → Takes built stimulus settings → Gives (JudgesTexts (Vcd names) text stimulus) (decision.Dump built settings numbers)
+dump_taken names text stimulus built settings numbers b known numbered takes = record {
+  names = names;
+  numbered = numbered;
+  dumped = λ bytes t. dumped names text stimulus built.fitted 0 bytes b.accepted known (written settings bytes takes t);
+}
+
+pub vcd_no_run : (names : List (List ℕ)) → Vcd names ≢ Run
+vcd_no_run names run = cc

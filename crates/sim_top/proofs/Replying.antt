@@ -14,40 +14,45 @@ use Rattle.shelf_io.specs.Outside.{Appends, Rose}
 use Rattle.circuit_make.specs.Rings.{ring_text}
 use Rattle.crew_run.specs.Summaries.{IsSummary}
 use Rattle.sim_engine.specs.Stages.{circuit_limit}
-use Rattle.sim_top.specs.declared.words.Command.{Command}
-use Rattle.sim_top.specs.declared.words.Command.TheVariants.{Run, Check, Widths, Cut}
 use Rattle.sim_top.specs.declared.texts.WholeFault.{WholeFault}
-use Rattle.sim_top.specs.declared.texts.WholeFault.TheVariants.{TooLong, NoStimulus}
+use Rattle.sim_top.specs.declared.texts.WholeFault.TheVariants.{TooLong, NoStimulus, WatchUnknown}
 use Rattle.sim_top.specs.declared.judge.Reply.{Reply}
 use Rattle.sim_top.specs.declared.judge.Decision.{Decision}
 use Rattle.sim_top.specs.declared.judge.Decision.TheVariants as decision
-use Rattle.sim_top.specs.Commands.{Question, Of_joined, Of_two, Of_made, asked_by, NeedsFor, the_joined, the_circuit, the_stimulus, Needs}
+use Rattle.sim_top.specs.Commands.{Job, Run, Check, Widths, Cut, Refine, Vcd, Question, Of_joined, Of_two, Of_made, asked_by, NeedsFor, the_joined, the_circuit, the_stimulus, Needs}
 use Rattle.sim_top.specs.Texts.{joined_limit}
-use Rattle.sim_top.specs.Answers.{whole_bytes, Runs, stimulus_too_long, stimulus_refused, traced, JudgesTexts, refused, accepted, listed, divided, ran, Judges, joined_too_long, no_stimulus, circuit_too_long, taken, AnswersTo, of_joined, of_long_circuit, of_two, of_made, of_made_refused, Answers, no_command, answered}
-use Rattle.sim_top.specs.Endings.{Ends, IsSaid, IsRun, IsFaultLine, of_circuit, of_whole, of_stimulus, of_whole_stimulus, IsReply, Gives, IsFor, IsReady, IsRunnable, status_of}
+use Rattle.sim_top.specs.Answers.{whole_bytes, RefusesStimulus, stimulus_too_long, stimulus_faulty, Runs, stimulus_refused, written, JudgesTexts, refused, accepted, listed, divided, refined, ran, watch_unknown, dumped, Judges, joined_too_long, no_stimulus, circuit_too_long, taken, AnswersTo, of_joined, of_long_circuit, of_two, of_made, of_made_refused, Answers, no_command, answered}
+use Rattle.sim_top.specs.Endings.{Ends, IsSaid, IsRun, IsFaultLine, of_circuit, of_whole, of_stimulus, of_whole_stimulus, IsReply, Gives, IsFor, IsReady, IsRunnable, IsDumpable, status_of}
 use Rattle.sim_top.proofs.AnswersOnce.{some_same, no_reading, answers_once}
+use Rattle.sim_top.proofs.Judging.{gives_more}
 
 -- what a command answers has the status 0, or is a line that names a fault
 abbrev Told : ℕ → List ℕ → Type 0
 Told status bytes = (status ≡ 0) ⊎ IsFaultLine status bytes
 
-ran_told : (texts : Texts) (design : Design) (stimulus : List ℕ) (s : ℕ) (b : List ℕ) → Runs texts design stimulus s b → Told s b
-ran_told texts design stimulus _ _ (stimulus_too_long l) = inr (of_whole_stimulus TooLong first_place)
-ran_told texts design stimulus _ _ (stimulus_refused ports fault place l p f at) = inr (of_stimulus fault place)
-ran_told texts design stimulus _ _ (traced ports settings bytes l p n i t) = inl refl
+refusal_line : (texts : Texts) (design : Design) (stimulus b : List ℕ) → RefusesStimulus texts design stimulus b → IsFaultLine 3 b
+refusal_line texts design stimulus _ (stimulus_too_long l) = of_whole_stimulus TooLong first_place
+refusal_line texts design stimulus _ (stimulus_faulty ports fault place l p f at) = of_stimulus fault place
 
-texts_told : (command : Command) (text stimulus : List ℕ) (s : ℕ) (b : List ℕ) → JudgesTexts command text stimulus s b → Told s b
-texts_told command text stimulus _ _ (refused _ _ _ fault p f at) = inr (of_circuit fault p)
+ran_told : (texts : Texts) (design : Design) (Writes : Stimulus → List ℕ → Type 0) (stimulus : List ℕ) (s : ℕ) (b : List ℕ) → Runs texts design Writes stimulus s b → Told s b
+ran_told texts design Writes stimulus _ b (stimulus_refused _ r) = inr (refusal_line texts design stimulus b r)
+ran_told texts design Writes stimulus _ _ (written settings bytes t w) = inl refl
+
+texts_told : (job : Job) (text stimulus : List ℕ) (s : ℕ) (b : List ℕ) → JudgesTexts job text stimulus s b → Told s b
+texts_told job text stimulus _ _ (refused _ _ _ fault p f at) = inr (of_circuit fault p)
 texts_told Check text stimulus _ _ (accepted _ _ fitted a) = inl refl
 texts_told Widths text stimulus _ _ (listed _ _ fitted a) = inl refl
 texts_told (Cut workers) text stimulus _ _ (divided _ _ _ fitted _ a cuts) = inl refl
-texts_told Run text stimulus s b (ran _ _ fitted _ _ a r) = ran_told fitted.checked.resolved.names _ stimulus s b r
+texts_told (Refine workers) text stimulus _ _ (refined _ _ _ fitted _ a cuts) = inl refl
+texts_told Run text stimulus s b (ran _ _ fitted _ _ a r) = ran_told fitted.checked.resolved.names _ _ stimulus s b r
+texts_told (Vcd names) text stimulus _ _ (watch_unknown _ _ _ fitted a none) = inr (of_whole WatchUnknown first_place)
+texts_told (Vcd names) text stimulus s b (dumped _ _ _ fitted _ _ a known r) = ran_told fitted.checked.resolved.names _ _ stimulus s b r
 
-judged_told : (command : Command) (joined : List ℕ) (s : ℕ) (b : List ℕ) → Judges command joined s b → Told s b
-judged_told command joined _ _ (joined_too_long _ _ l) = inr (of_whole TooLong first_place)
-judged_told Run joined _ _ (no_stimulus _ w n) = inr (of_whole NoStimulus first_place)
-judged_told command joined _ _ (circuit_too_long _ _ text stimulus w p l) = inr (of_whole TooLong first_place)
-judged_told command joined s b (taken _ _ text stimulus _ _ t j) = texts_told command text stimulus s b j
+judged_told : (job : Job) (joined : List ℕ) (s : ℕ) (b : List ℕ) → Judges job joined s b → Told s b
+judged_told job joined _ _ (joined_too_long _ _ l) = inr (of_whole TooLong first_place)
+judged_told job joined _ _ (no_stimulus _ _ runs w n) = inr (of_whole NoStimulus first_place)
+judged_told job joined _ _ (circuit_too_long _ _ text stimulus w p l) = inr (of_whole TooLong first_place)
+judged_told job joined s b (taken _ _ text stimulus _ _ t j) = texts_told job text stimulus s b j
 
 line_status : (s : ℕ) (b : List ℕ) → IsFaultLine s b → (2 ≤ s) × (s ≤ 3)
 line_status _ _ (of_circuit fault p) = (omega arith, omega arith)
@@ -61,21 +66,23 @@ line_usage s b line one = let two = (line_status s b line).0 in omega (arith, on
 told_usage : (s : ℕ) (b : List ℕ) → Told s b → s ≡ 1 → ⊥
 told_usage s b told one = ⊎_elim (λ zero. omega arith) (λ line. let two = (line_status s b line).0 in omega arith) told
 
-judged_reply : (command : Command) (joined : List ℕ) (s : ℕ) (b : List ℕ) → Judges command joined s b → IsReply s b
-judged_reply command joined s b j = ⊎_elim (λ zero. inl zero) (λ line. inr (inr line)) (judged_told command joined s b j)
+judged_reply : (job : Job) (joined : List ℕ) (s : ℕ) (b : List ℕ) → Judges job joined s b → IsReply s b
+judged_reply job joined s b j = ⊎_elim (λ zero. inl zero) (λ line. inr (inr line)) (judged_told job joined s b j)
 
 pub reply_few : (s : ℕ) (b : List ℕ) → IsReply s b → s ≤ 3
 reply_few s b reply = ⊎_elim (λ zero. omega arith)
     (λ more. ⊎_elim (λ (u : (s ≡ 1) × (b ≡ codes "usage\n")). let one = u.0 in omega arith) (λ line. (line_status s b line).1) more) reply
 
 -- what is decided for a joined text
-pub ready_decision : (command : Command) (joined : List ℕ) (d : Decision) → Gives (Judges command joined) d → IsFor command d → IsReady d
-ready_decision command joined (decision.Say reply) s run = judged_reply command joined _ _ s
-ready_decision command joined (decision.Run built settings watched) s run = run
+pub ready_decision : (job : Job) (joined : List ℕ) (d : Decision) → Gives (Judges job joined) d → IsFor job d → IsReady d
+ready_decision job joined (decision.Say reply) s run = judged_reply job joined _ _ s
+ready_decision job joined (decision.Run built settings watched) s run = run
+ready_decision job joined (decision.Dump built settings numbers) s run = run.1
 
-pub no_usage : (command : Command) (joined : List ℕ) (d : Decision) → Gives (Judges command joined) d → status_of d ≡ 1 → ⊥
-no_usage command joined (decision.Say reply) s one = told_usage _ _ (judged_told command joined _ _ s) one
-no_usage command joined (decision.Run built settings watched) s one = cc
+pub no_usage : (job : Job) (joined : List ℕ) (d : Decision) → Gives (Judges job joined) d → status_of d ≡ 1 → ⊥
+no_usage job joined (decision.Say reply) s one = told_usage _ _ (judged_told job joined _ _ s) one
+no_usage job joined (decision.Run built settings watched) s one = cc
+no_usage job joined (decision.Dump built settings numbers) s one = cc
 
 texts_ready : (text stimulus : List ℕ) (s : ℕ) (b : List ℕ) → JudgesTexts Run text stimulus s b → IsReply s b
 texts_ready text stimulus s b j = ⊎_elim (λ zero. inl zero) (λ line. inr (inr line)) (texts_told Run text stimulus s b j)
@@ -83,10 +90,12 @@ texts_ready text stimulus s b j = ⊎_elim (λ zero. inl zero) (λ line. inr (in
 pub ready_texts : (text stimulus : List ℕ) (d : Decision) → Gives (JudgesTexts Run text stimulus) d → IsFor Run d → IsReady d
 ready_texts text stimulus (decision.Say reply) s run = texts_ready text stimulus _ _ s
 ready_texts text stimulus (decision.Run built settings watched) s run = run
+ready_texts text stimulus (decision.Dump built settings numbers) s run = run.1
 
 pub no_usage_texts : (text stimulus : List ℕ) (d : Decision) → Gives (JudgesTexts Run text stimulus) d → status_of d ≡ 1 → ⊥
 no_usage_texts text stimulus (decision.Say reply) s one = told_usage _ _ (texts_told Run text stimulus _ _ s) one
 no_usage_texts text stimulus (decision.Run built settings watched) s one = cc
+no_usage_texts text stimulus (decision.Dump built settings numbers) s one = cc
 
 pub usage_ready : (b : List ℕ) → b ≡ codes "usage\n" → IsReply 1 b
 usage_ready b e = inr (inl (refl, e))
@@ -95,19 +104,18 @@ pub whole_ready : (b : List ℕ) (s : ℕ) (fault : WholeFault) → s ≡ 2 → 
 whole_ready b s fault two e = inr (inr (rw (two, e) (of_whole fault first_place)))
 
 -- for what is asked
-pub name_answers : (texts : List ℕ → Option (List ℕ)) (command : Command) (name joined : List ℕ) (d : Decision) → texts name ≡ Some joined → Gives (Judges command joined) d
-    → Gives (AnswersTo texts (Of_joined command name)) d
-name_answers texts command name joined (decision.Say reply) held j = of_joined command name joined _ _ held j
-name_answers texts command name joined (decision.Run built settings watched) held j = λ bytes t. of_joined command name joined _ _ held (j bytes t)
+pub name_answers : (texts : List ℕ → Option (List ℕ)) (job : Job) (name joined : List ℕ) (d : Decision) → texts name ≡ Some joined → Gives (Judges job joined) d
+    → Gives (AnswersTo texts (Of_joined job name)) d
+name_answers texts job name joined d held j = gives_more (Judges job joined) (AnswersTo texts (Of_joined job name)) (λ s b. of_joined job name joined s b held) d j
 
-pub long_answers : (texts : List ℕ → Option (List ℕ)) (command : Command) (name joined : List ℕ) (s : ℕ) (b : List ℕ) → texts name ≡ Some joined → joined_limit < length joined
-    → s ≡ 2 → b ≡ whole_bytes TooLong first_place → AnswersTo texts (Of_joined command name) s b
-long_answers texts command name joined s b held long two e = rw (two, e) (of_joined command name joined _ _ held (joined_too_long command joined long))
+pub long_answers : (texts : List ℕ → Option (List ℕ)) (job : Job) (name joined : List ℕ) (s : ℕ) (b : List ℕ) → texts name ≡ Some joined → joined_limit < length joined
+    → s ≡ 2 → b ≡ whole_bytes TooLong first_place → AnswersTo texts (Of_joined job name) s b
+long_answers texts job name joined s b held long two e = rw (two, e) (of_joined job name joined _ _ held (joined_too_long job joined long))
 
 pub texts_answer : (texts : List ℕ → Option (List ℕ)) (circuit stimulus text given : List ℕ) (d : Decision) → texts circuit ≡ Some text → length text ≤ circuit_limit
     → texts stimulus ≡ Some given → Gives (JudgesTexts Run text given) d → Gives (AnswersTo texts (Of_two circuit stimulus)) d
-texts_answer texts circuit stimulus text given (decision.Say reply) held short told j = of_two circuit stimulus text given _ _ held short told j
-texts_answer texts circuit stimulus text given (decision.Run built settings watched) held short told j = λ bytes t. of_two circuit stimulus text given _ _ held short told (j bytes t)
+texts_answer texts circuit stimulus text given d held short told j =
+    gives_more (JudgesTexts Run text given) (AnswersTo texts (Of_two circuit stimulus)) (λ s b. of_two circuit stimulus text given s b held short told) d j
 
 pub circuit_answers : (texts : List ℕ → Option (List ℕ)) (circuit stimulus text : List ℕ) (s : ℕ) (b : List ℕ) → texts circuit ≡ Some text → circuit_limit < length text → s ≡ 2
     → b ≡ whole_bytes TooLong first_place → AnswersTo texts (Of_two circuit stimulus) s b
@@ -141,14 +149,17 @@ made_run texts cycles size d built settings watched trace b s e made zero told s
     let ran = subst (IsMade cycles size) e made in
     subst (λ (k : ℕ). AnswersTo texts (Of_made cycles size) k b) (sym zero) (of_made cycles size trace b (ran.0 trace told) sums)
 
+-- of a text that is made nothing is dumped
+pub made_dump : (cycles size : ℕ) (d : Decision) (built : Built) (settings : Stimulus) (numbers : List ℕ) → d ≡ decision.Dump built settings numbers → IsFor Run d → ⊥
+made_dump cycles size d built settings numbers e fits = (subst (IsFor Run) e fits).0 refl
+
 -- and for words
 pub usage_answers : (words : List (List ℕ)) (texts : List ℕ → Option (List ℕ)) (b : List ℕ) → asked_by words ≡ None → b ≡ codes "usage\n" → Answers words texts 1 b
 usage_answers words texts b none e = rw e (no_command words texts none)
 
 pub words_answer : (words : List (List ℕ)) (texts : List ℕ → Option (List ℕ)) (question : Question) (d : Decision) → asked_by words ≡ Some question
     → Gives (AnswersTo texts question) d → Gives (Answers words texts) d
-words_answer words texts question (decision.Say reply) asked a = answered words texts question _ _ asked a
-words_answer words texts question (decision.Run built settings watched) asked a = λ bytes t. answered words texts question _ _ asked (a bytes t)
+words_answer words texts question d asked a = gives_more (AnswersTo texts question) (Answers words texts) (λ s b. answered words texts question s b asked) d a
 
 -- what was appended
 appended : (old new : Option (List ℕ)) (before xs : List ℕ) → old ≡ Some before → Appends old new xs → new ≡ Some (before ++ xs)
@@ -269,7 +280,7 @@ ends_wanting words texts before new e = record {
 -- where the text isn't held there is no answer
 unheld_asked : (texts : List ℕ → Option (List ℕ)) (held : Option (List ℕ → Option (List ℕ))) (question : Question) (name : List ℕ) (s : ℕ) (b : List ℕ) → held ≡ Some texts
     → NeedsFor held question name → texts name ≡ None → AnswersTo texts question s b → ⊥
-unheld_asked texts held (Of_joined command name) _ s b told (the_joined _ _) none (of_joined _ _ joined _ _ h j) = let f : None ≡ Some joined = sym none ∙ h in cc
+unheld_asked texts held (Of_joined job name) _ s b told (the_joined _ _) none (of_joined _ _ joined _ _ h j) = let f : None ≡ Some joined = sym none ∙ h in cc
 unheld_asked texts held (Of_two circuit stimulus) _ _ _ told (the_circuit _ _) none (of_long_circuit _ _ text h l) = let f : None ≡ Some text = sym none ∙ h in cc
 unheld_asked texts held (Of_two circuit stimulus) _ s b told (the_circuit _ _) none (of_two _ _ text given _ _ h l g j) = let f : None ≡ Some text = sym none ∙ h in cc
 unheld_asked texts held (Of_two circuit stimulus) _ _ _ told (the_stimulus _ _ short) none (of_long_circuit _ _ text h l) =
@@ -306,6 +317,15 @@ planned built stimulus watched runnable = record {
   fed = runnable.is_built.inputs;
   seen = runnable.is_built.watched;
   formed = runnable.formed;
+}
+
+pub dump_planned : (built : Built) (stimulus : Stimulus) (numbers : List ℕ) → IsDumpable built stimulus numbers → IsPlanned built.ordered built.ports stimulus
+dump_planned built stimulus numbers dumpable = record {
+  net = dumpable.is_built.ordered.serves.of.well_formed;
+  order = dumpable.is_built.ordered.sequence;
+  fed = dumpable.is_built.inputs;
+  seen = dumpable.is_built.watched;
+  formed = dumpable.formed;
 }
 
 -- where it failed, its count rose

@@ -1,9 +1,8 @@
 -- A joined text is split in one way.
 use Rattle.std.proofs.Common.{◌≡◌, ℕ, ◌≤◌, false, true, List, ⊎_elim, drop, take, refl, sym, ap, ◌∙◌, subst, arith, lt_of_not-le}
 use native.Mathlib.Decide.{dec_le}
-use Rattle.sim_top.specs.declared.words.Command.TheVariants.{Run}
-use Rattle.sim_top.specs.declared.words.Command.{Command}
-use Rattle.sim_top.specs.Texts.{IsStimulusLine, StandsAt, NoneBefore, HasNone, IsSplit, IsPart, all_of_it, before_line}
+use Rattle.sim_top.specs.Commands.{Job}
+use Rattle.sim_top.specs.Texts.{IsStimulusLine, StandsAt, NoneBefore, reads_all, HasNone, IsSplit, IsPart, all_of_it, before_line}
 
 -- what stands behind the line
 line_once : (bytes a b : List ℕ) → IsStimulusLine bytes a → IsStimulusLine bytes b → a ≡ b
@@ -27,13 +26,13 @@ split_once text a b a' b' p q =
 pub split_or_none : (text a b : List ℕ) → IsSplit text a b → HasNone text → ⊥
 split_or_none text a b p none = none p.at b p.stands
 
-pub part_once : (command : Command) (text a b a' b' : List ℕ) → IsPart command text a b → IsPart command text a' b' → (a ≡ a') × (b ≡ b')
-part_once command text a b a' b' (before_line _ _ _ _ p) (before_line _ _ _ _ q) = split_once text a b a' b' p q
-part_once command text a b _ _ (before_line _ _ _ _ p) (all_of_it _ _ r n) = absurd (split_or_none text a b p n)
-part_once command text _ _ a b (all_of_it _ _ r n) (before_line _ _ _ _ q) = absurd (split_or_none text a b q n)
-part_once command text _ _ _ _ (all_of_it _ _ r n) (all_of_it _ _ s m) = (refl, refl)
+pub part_once : (job : Job) (text a b a' b' : List ℕ) → IsPart job text a b → IsPart job text a' b' → (a ≡ a') × (b ≡ b')
+part_once job text a b a' b' (before_line _ _ _ _ p) (before_line _ _ _ _ q) = split_once text a b a' b' p q
+part_once job text a b _ _ (before_line _ _ _ _ p) (all_of_it _ _ r n) = absurd (split_or_none text a b p n)
+part_once job text _ _ a b (all_of_it _ _ r n) (before_line _ _ _ _ q) = absurd (split_or_none text a b q n)
+part_once job text _ _ _ _ (all_of_it _ _ r n) (all_of_it _ _ s m) = (refl, refl)
 
--- `run` has no part where there is no line
-pub run_has_line : (text a b : List ℕ) → IsPart Run text a b → HasNone text → ⊥
-run_has_line text a b (before_line _ _ _ _ p) none = split_or_none text a b p none
-run_has_line text _ _ (all_of_it _ _ r n) none = let e : false ≡ true = r in cc
+-- a job that runs the circuit has no part where there is no line
+pub run_has_line : (job : Job) (text a b : List ℕ) → reads_all job ≡ false → IsPart job text a b → HasNone text → ⊥
+run_has_line job text a b runs (before_line _ _ _ _ p) none = split_or_none text a b p none
+run_has_line job text _ _ runs (all_of_it _ _ r n) none = let e : false ≡ true = sym runs ∙ r in cc

@@ -1,5 +1,5 @@
 -- What the program is to answer: a status and the bytes that are written.
-use Rattle.std.specs.Prelude.{◌≡◌, ◌≢◌, ℕ, ◌<◌, ◌≤◌, List, length, Option, Some, None, codes}
+use Rattle.std.specs.Prelude.{◌≡◌, ◌≢◌, ℕ, ◌<◌, ◌≤◌, false, List, length, Option, Some, None, codes}
 use Rattle.place_text.specs.Places.{fault_line_bytes, first_place}
 use Rattle.place_text.specs.declared.place.Place.{Place}
 use Rattle.place_text.specs.declared.place.TextPart.TheVariants.{Circuit as Circuit_part, Stimulus as Stimulus_part}
@@ -18,17 +18,19 @@ use Rattle.trace_print.specs.Listing.{listing_of}
 use Rattle.crew_run.specs.Summaries.{IsSummary}
 use Rattle.circuit_make.specs.Rings.{ring_text}
 use Rattle.cut_listing.specs.CircuitCuts.{IsCutText}
+use Rattle.refine_listing.specs.RefinedTexts.{IsRefinedText}
+use Rattle.circuit_dump.specs.Variables.{NamesNoLeaf}
+use Rattle.circuit_dump.specs.VcdTexts.{IsVcdText}
 use Rattle.sim_engine.specs.Stages.{circuit_limit, IsAccepted, IsFirstFault}
 use Rattle.sim_engine.specs.Faults.{kind_name, fault_place}
 use Rattle.sim_engine.specs.declared.fault.CircuitFault.{CircuitFault}
-use Rattle.sim_top.specs.declared.words.Command.{Command}
-use Rattle.sim_top.specs.declared.words.Command.TheVariants.{Run, Check, Widths, Cut}
 use Rattle.sim_top.specs.declared.texts.WholeFault.{WholeFault}
-use Rattle.sim_top.specs.declared.texts.WholeFault.TheVariants.{TooLong, NoStimulus}
-use Rattle.sim_top.specs.Commands.{Question, Of_joined, Of_two, Of_made, asked_by}
-use Rattle.sim_top.specs.Texts.{joined_limit, stimulus_limit, whole_name, HasNone, IsPart, IsTaken}
+use Rattle.sim_top.specs.declared.texts.WholeFault.TheVariants.{TooLong, NoStimulus, WatchUnknown}
+use Rattle.sim_top.specs.Commands.{Job, Run, Check, Widths, Cut, Refine, Vcd, Question, Of_joined, Of_two, Of_made, asked_by}
+use Rattle.sim_top.specs.Texts.{joined_limit, stimulus_limit, whole_name, reads_all, HasNone, IsPart, IsTaken}
 
--- The lines of faults: of a fault of the circuit, of one of its text as a whole, of a fault of the stimulus, and of one of its text as a whole.
+-- The lines of faults: of a fault of the circuit, of one of its text as a whole or of the words, of a fault of the stimulus, and of one of its text as a
+-- whole.
 abbrev pub fault_bytes : CircuitFault → Place → List ℕ
 fault_bytes fault there' = fault_line_bytes Circuit_part (kind_name fault) there'
 
@@ -41,40 +43,62 @@ stimulus_bytes fault there' = fault_line_bytes Stimulus_part (kind_of fault) the
 abbrev pub whole_stimulus_bytes : WholeFault → Place → List ℕ
 whole_stimulus_bytes fault there' = fault_line_bytes Stimulus_part (whole_name fault) there'
 
--- What a run of a circuit answers to the text of a stimulus: that it is too long, its first fault, or the trace.
-pub data Runs (texts : Texts) (design : Design) (text : List ℕ) : ℕ → List ℕ → Type 0 where
-  stimulus_too_long : stimulus_limit < length text → Runs texts design text 3 (whole_stimulus_bytes TooLong first_place)
-  stimulus_refused : (ports : Ports) (fault : StimFault) (there' : Place) → length text ≤ stimulus_limit → ArePortsOf texts design ports
-      → IsFirst place_of rank_of (IsFault text ports) fault → place_of fault ≡ Some there' → Runs texts design text 3 (stimulus_bytes fault there')
-  traced : (ports : Ports) (stimulus : Stimulus) (bytes : List ℕ) → length text ≤ stimulus_limit → ArePortsOf texts design ports
-      → HasNoFault (IsFault text ports) → IsStimulus text ports stimulus → IsTraceText texts design stimulus bytes → Runs texts design text 0 bytes
+-- What the text of a stimulus is refused with for a circuit that is run: that it is too long, or its first fault.
+pub data RefusesStimulus (texts : Texts) (design : Design) (text : List ℕ) : List ℕ → Type 0 where
+  stimulus_too_long : stimulus_limit < length text → RefusesStimulus texts design text (whole_stimulus_bytes TooLong first_place)
+  stimulus_faulty : (ports : Ports) (fault : StimFault) (there' : Place) → length text ≤ stimulus_limit → ArePortsOf texts design ports
+      → IsFirst place_of rank_of (IsFault text ports) fault → place_of fault ≡ Some there' → RefusesStimulus texts design text (stimulus_bytes fault there')
 
--- What a command answers where the circuit's text was taken: its first fault; or for `check` that there is none, for `widths` the listing, for
--- `cut` the circuit's cut, for `run` what a run of the circuit answers.
-pub data JudgesTexts : Command → List ℕ → List ℕ → ℕ → List ℕ → Type 0 where
-  refused : (command : Command) (text stimulus : List ℕ) (fault : CircuitFault) (there' : Place) → IsFirstFault text fault → fault_place fault ≡ Some there'
-      → JudgesTexts command text stimulus 2 (fault_bytes fault there')
+-- The text is within its limit and without a fault, and this is its stimulus.
+pub record TakesStimulus (texts : Texts) (design : Design) (text : List ℕ) (stimulus : Stimulus) : Type 0 where
+  pub within : length text ≤ stimulus_limit
+  pub ports : Ports
+  pub are_ports : ArePortsOf texts design ports
+  pub faultless : HasNoFault (IsFault text ports)
+  pub is : IsStimulus text ports stimulus
+
+-- What a run of a circuit answers to the text of a stimulus, where this relation says what is written under a stimulus.
+pub data Runs (texts : Texts) (design : Design) (Writes : Stimulus → List ℕ → Type 0) (text : List ℕ) : ℕ → List ℕ → Type 0 where
+  stimulus_refused : (bytes : List ℕ) → RefusesStimulus texts design text bytes → Runs texts design Writes text 3 bytes
+  written : (stimulus : Stimulus) (bytes : List ℕ) → TakesStimulus texts design text stimulus → Writes stimulus bytes → Runs texts design Writes text 0 bytes
+
+-- What is answered where the circuit's text was taken: its first fault; or for `check` that there is none, for `widths` the listing, for `cut` the
+-- circuit's cut, for `refine` the refined one, for `run` what a run of the circuit answers, and for `vcd` that a word names no leaf, or what a
+-- run answers that is dumped.
+pub data JudgesTexts : Job → List ℕ → List ℕ → ℕ → List ℕ → Type 0 where
+  refused : (job : Job) (text stimulus : List ℕ) (fault : CircuitFault) (there' : Place) → IsFirstFault text fault → fault_place fault ≡ Some there'
+      → JudgesTexts job text stimulus 2 (fault_bytes fault there')
   accepted : (text stimulus : List ℕ) (fitted : Fitted) → IsAccepted text fitted → JudgesTexts Check text stimulus 0 (codes "ok\n")
   listed : (text stimulus : List ℕ) (fitted : Fitted) → IsAccepted text fitted → JudgesTexts Widths text stimulus 0 (listing_of fitted)
   divided : (workers : ℕ) (text stimulus : List ℕ) (fitted : Fitted) (bytes : List ℕ) → IsAccepted text fitted
       → IsCutText fitted.checked.resolved.names (design_of fitted) workers bytes → JudgesTexts (Cut workers) text stimulus 0 bytes
+  refined : (workers : ℕ) (text stimulus : List ℕ) (fitted : Fitted) (bytes : List ℕ) → IsAccepted text fitted
+      → IsRefinedText fitted.checked.resolved.names (design_of fitted) workers bytes → JudgesTexts (Refine workers) text stimulus 0 bytes
   ran : (text stimulus : List ℕ) (fitted : Fitted) (status : ℕ) (bytes : List ℕ) → IsAccepted text fitted
-      → Runs fitted.checked.resolved.names (design_of fitted) stimulus status bytes → JudgesTexts Run text stimulus status bytes
+      → Runs fitted.checked.resolved.names (design_of fitted) (IsTraceText fitted.checked.resolved.names (design_of fitted)) stimulus status bytes
+      → JudgesTexts Run text stimulus status bytes
+  watch_unknown : (names : List (List ℕ)) (text stimulus : List ℕ) (fitted : Fitted) → IsAccepted text fitted
+      → NamesNoLeaf fitted.checked.resolved.names (design_of fitted) names → JudgesTexts (Vcd names) text stimulus 2 (whole_bytes WatchUnknown first_place)
+  dumped : (names : List (List ℕ)) (text stimulus : List ℕ) (fitted : Fitted) (status : ℕ) (bytes : List ℕ) → IsAccepted text fitted
+      → (NamesNoLeaf fitted.checked.resolved.names (design_of fitted) names → ⊥)
+      → Runs fitted.checked.resolved.names (design_of fitted) (IsVcdText fitted.checked.resolved.names (design_of fitted) names) stimulus status bytes
+      → JudgesTexts (Vcd names) text stimulus status bytes
 
--- What a command answers to a joined text. Of the faults of the text as a whole the first in this order counts.
-pub data Judges : Command → List ℕ → ℕ → List ℕ → Type 0 where
-  joined_too_long : (command : Command) (joined : List ℕ) → joined_limit < length joined → Judges command joined 2 (whole_bytes TooLong first_place)
-  no_stimulus : (joined : List ℕ) → length joined ≤ joined_limit → HasNone joined → Judges Run joined 2 (whole_bytes NoStimulus first_place)
-  circuit_too_long : (command : Command) (joined circuit stimulus : List ℕ) → length joined ≤ joined_limit → IsPart command joined circuit stimulus
-      → circuit_limit < length circuit → Judges command joined 2 (whole_bytes TooLong first_place)
-  taken : (command : Command) (joined circuit stimulus : List ℕ) (status : ℕ) (bytes : List ℕ) → IsTaken command joined circuit stimulus
-      → JudgesTexts command circuit stimulus status bytes → Judges command joined status bytes
+-- What is answered to a joined text. Of the faults of the text as a whole the first in this order counts.
+pub data Judges : Job → List ℕ → ℕ → List ℕ → Type 0 where
+  joined_too_long : (job : Job) (joined : List ℕ) → joined_limit < length joined → Judges job joined 2 (whole_bytes TooLong first_place)
+  no_stimulus : (job : Job) (joined : List ℕ) → reads_all job ≡ false → length joined ≤ joined_limit → HasNone joined
+      → Judges job joined 2 (whole_bytes NoStimulus first_place)
+  circuit_too_long : (job : Job) (joined circuit stimulus : List ℕ) → length joined ≤ joined_limit → IsPart job joined circuit stimulus
+      → circuit_limit < length circuit → Judges job joined 2 (whole_bytes TooLong first_place)
+  taken : (job : Job) (joined circuit stimulus : List ℕ) (status : ℕ) (bytes : List ℕ) → IsTaken job joined circuit stimulus
+      → JudgesTexts job circuit stimulus status bytes → Judges job joined status bytes
 
 -- The answer to a question, where the texts that it needs are held. Of two texts the circuit's is judged as a whole: no line is looked for in it.
 -- The text that is made is run as any joined text, and the summary stands for the trace.
 pub data AnswersTo (texts : List ℕ → Option (List ℕ)) : Question → ℕ → List ℕ → Type 0 where
-  of_joined : (command : Command) (name joined : List ℕ) (status : ℕ) (bytes : List ℕ) → texts name ≡ Some joined → Judges command joined status bytes
-      → AnswersTo texts (Of_joined command name) status bytes
+  of_joined : (job : Job) (name joined : List ℕ) (status : ℕ) (bytes : List ℕ) → texts name ≡ Some joined → Judges job joined status bytes
+      → AnswersTo texts (Of_joined job name) status bytes
   of_long_circuit : (circuit stimulus text : List ℕ) → texts circuit ≡ Some text → circuit_limit < length text
       → AnswersTo texts (Of_two circuit stimulus) 2 (whole_bytes TooLong first_place)
   of_two : (circuit stimulus text given : List ℕ) (status : ℕ) (bytes : List ℕ) → texts circuit ≡ Some text → length text ≤ circuit_limit

@@ -8,14 +8,15 @@ use Rattle.stimulus.specs.declared.fault.StimFault.{StimFault}
 use Rattle.stimulus.specs.Stimuli.{IsFormed}
 use Rattle.circuit_run.specs.NetRuns.{watch}
 use Rattle.circuit_run.specs.Traces.{IsTraceText}
+use Rattle.circuit_dump.specs.NetNames.{AreNumbersOf}
+use Rattle.circuit_dump.specs.VcdTexts.{IsVcdText}
 use Rattle.sim_engine.specs.Building.{IsBuilt}
 use Rattle.sim_engine.specs.declared.compile.Built.{Built}
 use Rattle.sim_engine.specs.declared.fault.CircuitFault.{CircuitFault}
-use Rattle.sim_top.specs.declared.words.Command.{Command}
-use Rattle.sim_top.specs.declared.words.Command.TheVariants.{Run}
 use Rattle.sim_top.specs.declared.texts.WholeFault.{WholeFault}
 use Rattle.sim_top.specs.declared.judge.Decision.{Decision}
 use Rattle.sim_top.specs.declared.judge.Decision.TheVariants as decision
+use Rattle.sim_top.specs.Commands.{Job, Run}
 use Rattle.sim_top.specs.Answers.{Answers, fault_bytes, whole_bytes, stimulus_bytes, whole_stimulus_bytes}
 
 -- Where the shelf tells its texts and the sink its bytes: `before` stood there, and now stands `after`.
@@ -38,13 +39,13 @@ pub record IsSaid (result status : ℕ) (bytes : List ℕ) (old new : Option (Li
   pub all : result ≢ 5 → (result ≡ status) × Appends old new bytes
   pub part : result ≡ 5 → (n : ℕ) × Appends old new (take n bytes)
 
--- A trace was written: all of it at 0, and a prefix where the sink failed, at 5, or memory was wanted, at 6.
+-- A trace or a dump was written: all of it at 0, and a prefix where the sink failed, at 5, or memory was wanted, at 6.
 pub record IsRun (result : ℕ) (bytes : List ℕ) (old new : Option (List ℕ)) : Type 0 where
   pub status : (result ≡ 0) ⊎ (result ≡ 5) ⊎ (result ≡ 6)
   pub all : result ≡ 0 → Appends old new bytes
   pub part : result ≢ 0 → (n : ℕ) × Appends old new (take n bytes)
 
--- The one line that names a fault: at status 2 one of the circuit or of its text as a whole, at 3 one of the stimulus or of its text as a whole.
+-- The one line that names a fault: at status 2 one of the circuit, of its text as a whole or of the words, at 3 one of the stimulus or of its text as a whole.
 pub data IsFaultLine : ℕ → List ℕ → Type 0 where
   of_circuit : (fault : CircuitFault) (there' : Place) → IsFaultLine 2 (fault_bytes fault there')
   of_whole : (fault : WholeFault) (there' : Place) → IsFaultLine 2 (whole_bytes fault there')
@@ -55,10 +56,17 @@ pub data IsFaultLine : ℕ → List ℕ → Type 0 where
 abbrev pub IsReply : ℕ → List ℕ → Type 0
 IsReply status bytes = (status ≡ 0) ⊎ (((status ≡ 1) × (bytes ≡ codes "usage\n")) ⊎ IsFaultLine status bytes)
 
--- A decision has a property of answers: its reply has it, or the trace has it, at status 0.
+-- The dump of words that name the leaves of these numbers has a property of answers, at status 0.
+pub record GivesDump (Property : ℕ → List ℕ → Type 0) (built : Built) (stimulus : Stimulus) (numbers : List ℕ) : Type 0 where
+  pub names : List (List ℕ)
+  pub numbered : AreNumbersOf built.ordered.net names numbers
+  pub dumped : (bytes : List ℕ) → IsVcdText built.fitted.checked.resolved.names (design_of built.fitted) names stimulus bytes → Property 0 bytes
+
+-- A decision has a property of answers: its reply has it, or the trace or the dump has it, at status 0.
 abbrev pub Gives : (ℕ → List ℕ → Type 0) → Decision → Type 0
 Gives Property (decision.Say reply) = Property reply.status reply.bytes.items
 Gives Property (decision.Run built stimulus watched) = (bytes : List ℕ) → IsTraceText built.fitted.checked.resolved.names (design_of built.fitted) stimulus bytes → Property 0 bytes
+Gives Property (decision.Dump built stimulus numbers) = GivesDump Property built stimulus numbers
 
 -- What was built can be run under the stimulus, by the watched leaves of its ports.
 pub record IsRunnable (built : Built) (stimulus : Stimulus) (watched : List ℕ) : Type 0 where
@@ -68,17 +76,27 @@ pub record IsRunnable (built : Built) (stimulus : Stimulus) (watched : List ℕ)
   pub are_watched : watched ≡ watch built.ordered.net
   pub are_leaves : All (λ x. x < length built.ordered.net.leaves) watched
 
--- What a decision for a command is: a run that can be run, or a reply. Of a run no trace is said.
-abbrev pub IsFor : Command → Decision → Type 0
-IsFor command (decision.Say reply) = command ≡ Run → reply.status ≢ 0
-IsFor command (decision.Run built stimulus watched) = IsRunnable built stimulus watched
+-- What was built can be run under the stimulus with the leaves of these numbers dumped.
+pub record IsDumpable (built : Built) (stimulus : Stimulus) (numbers : List ℕ) : Type 0 where
+  pub text : List ℕ
+  pub is_built : IsBuilt text built
+  pub formed : IsFormed built.ports stimulus
+  pub are_leaves : All (λ x. x < length built.ordered.net.leaves) numbers
 
--- A decision can be carried out: a reply is one, and a run can be run.
+-- What a decision for a job is: a run or a dump that can be run, or a reply. Of a run no trace is said and none is dumped.
+abbrev pub IsFor : Job → Decision → Type 0
+IsFor job (decision.Say reply) = job ≡ Run → reply.status ≢ 0
+IsFor job (decision.Run built stimulus watched) = IsRunnable built stimulus watched
+IsFor job (decision.Dump built stimulus numbers) = (job ≢ Run) × IsDumpable built stimulus numbers
+
+-- A decision can be carried out: a reply is one, and a run or a dump can be run.
 abbrev pub IsReady : Decision → Type 0
 IsReady (decision.Say reply) = IsReply reply.status reply.bytes.items
 IsReady (decision.Run built stimulus watched) = IsRunnable built stimulus watched
+IsReady (decision.Dump built stimulus numbers) = IsDumpable built stimulus numbers
 
 -- the status, where nothing fails
 abbrev pub status_of : Decision → ℕ
 status_of (decision.Say reply) = reply.status
 status_of (decision.Run built stimulus watched) = 0
+status_of (decision.Dump built stimulus numbers) = 0

@@ -2,10 +2,9 @@
 use Rattle.std.specs.Prelude.{◌≡◌, ◌≢◌, ℕ, ◌+◌, ◌-◌, ◌<◌, ◌≤◌, Bool, true, false, List, [], ◌++◌, length, take, drop, codes, slice_get, Some, ◌⊎◌}
 use Rattle.crew_run.specs.Summaries.{BeginsLine}
 use Rattle.sim_engine.specs.Stages.{circuit_limit}
-use Rattle.sim_top.specs.declared.words.Command.{Command}
-use Rattle.sim_top.specs.declared.words.Command.TheVariants.{Run, Check, Widths, Cut}
 use Rattle.sim_top.specs.declared.texts.WholeFault.{WholeFault}
-use Rattle.sim_top.specs.declared.texts.WholeFault.TheVariants.{TooLong, NoStimulus}
+use Rattle.sim_top.specs.declared.texts.WholeFault.TheVariants.{TooLong, NoStimulus, WatchUnknown}
+use Rattle.sim_top.specs.Commands.{Job, Run, Check, Widths, Cut, Refine, Vcd}
 
 -- the greatest length of a joined text, and of a stimulus's text, in bytes
 abbrev pub joined_limit : ℕ
@@ -14,10 +13,11 @@ joined_limit = 20971520
 abbrev pub stimulus_limit : ℕ
 stimulus_limit = 4194304
 
--- the names of faults of a text as a whole
+-- the names of faults that have no place of their own
 abbrev pub whole_name : WholeFault → List ℕ
 whole_name TooLong = codes "TooLong"
 whole_name NoStimulus = codes "NoStimulus"
+whole_name WatchUnknown = codes "WatchUnknown"
 
 -- The line `%stimulus`, by itself up to its end, and what stands behind it: a carriage return may stand before its line
 -- feed, and the text may end without one.
@@ -53,21 +53,23 @@ pub record EndsFirst (bytes : List ℕ) (n : ℕ) : Type 0 where
   pub feed : slice_get bytes (n - 1) ≡ Some 10
   pub none : (k : ℕ) → k + 1 < n → slice_get bytes k ≢ Some 10
 
--- whether a command takes all of a text for the circuit's where it has no line `%stimulus`
-abbrev pub reads_all : Command → Bool
+-- whether a job takes all of a text for the circuit's where it has no line `%stimulus`: one that runs the circuit doesn't
+abbrev pub reads_all : Job → Bool
 reads_all Run = false
 reads_all Check = true
 reads_all Widths = true
 reads_all (Cut workers) = true
+reads_all (Refine workers) = true
+reads_all (Vcd names) = false
 
--- The circuit's text and the stimulus's: what stands before the line `%stimulus`, and what stands behind it. For other commands than `run` all of
+-- The circuit's text and the stimulus's: what stands before the line `%stimulus`, and what stands behind it. Where the circuit isn't run all of
 -- a text without such a line is the circuit's, and the stimulus's is empty.
-pub data IsPart : Command → List ℕ → List ℕ → List ℕ → Type 0 where
-  before_line : (command : Command) (joined circuit stimulus : List ℕ) → IsSplit joined circuit stimulus → IsPart command joined circuit stimulus
-  all_of_it : (command : Command) (joined : List ℕ) → reads_all command ≡ true → HasNone joined → IsPart command joined joined []
+pub data IsPart : Job → List ℕ → List ℕ → List ℕ → Type 0 where
+  before_line : (job : Job) (joined circuit stimulus : List ℕ) → IsSplit joined circuit stimulus → IsPart job joined circuit stimulus
+  all_of_it : (job : Job) (joined : List ℕ) → reads_all job ≡ true → HasNone joined → IsPart job joined joined []
 
 -- the circuit's text was taken: all is within its limit
-pub record IsTaken (command : Command) (joined circuit stimulus : List ℕ) : Type 0 where
+pub record IsTaken (job : Job) (joined circuit stimulus : List ℕ) : Type 0 where
   pub within : length joined ≤ joined_limit
-  pub part : IsPart command joined circuit stimulus
+  pub part : IsPart job joined circuit stimulus
   pub short : length circuit ≤ circuit_limit

@@ -1,6 +1,6 @@
 //! What a command answers to texts.
 
-ghost use Rattle.std.specs.Prelude.{◌≡◌, ℕ, List, ◌<◌, ◌≤◌, length, IfOk, Some, codes};
+ghost use Rattle.std.specs.Prelude.{◌≡◌, ℕ, List, map, true, ◌<◌, ◌≤◌, length, IfOk, IfErr, Some, codes};
 ghost use Rattle.place_text.specs.Places.{first_place};
 ghost use Rattle.place_text.specs.declared.place.Place.{Place as APlace};
 ghost use Rattle.trace_print.specs.Listing.{listing_of};
@@ -11,19 +11,23 @@ ghost use Rattle.stimulus.specs.Faults.{place_of};
 ghost use Rattle.stimulus.specs.Stimuli.{IsFormed};
 ghost use Rattle.fir_meaning.specs.Components.{design_of};
 ghost use Rattle.cut_listing.specs.CircuitCuts.{IsCutText};
-ghost use Rattle.sim_top.specs.Commands.{AreWorkers};
-ghost use Rattle.sim_top.specs.Texts.{joined_limit, stimulus_limit, HasNone, IsPart};
-ghost use Rattle.sim_top.specs.Answers.{fault_bytes, whole_bytes, stimulus_bytes, whole_stimulus_bytes, JudgesTexts, Judges};
+ghost use Rattle.refine_listing.specs.RefinedTexts.{IsRefinedText};
+ghost use Rattle.sim_top.specs.Commands.{AreWorkers, Run, Vcd, job};
+ghost use Rattle.sim_top.specs.Texts.{joined_limit, stimulus_limit, reads_all, HasNone, IsPart};
+ghost use Rattle.sim_top.specs.Answers.{fault_bytes, whole_bytes, stimulus_bytes, whole_stimulus_bytes, RefusesStimulus, TakesStimulus, JudgesTexts, Judges};
+ghost use Rattle.sim_top.specs.declared.judge.Reply.{Reply as TheReply};
 ghost use Rattle.sim_top.specs.Endings.{IsFaultLine, Gives, IsFor, IsRunnable};
 
 use crate::texts::{STIMULUS_LIMIT, WholeFault, split};
 use crate::words::Command;
 use bit_words::List;
+use circuit_dump::variables;
 use crew_run::watched_numbers;
 use cut_listing::circuit_cut;
 use fault_order::Fault;
 use fir_tree::Fitted;
 use place_text::{Place, TextPart, fault_line};
+use refine_listing::circuit_refine;
 use sim_engine::{Built, CIRCUIT_LIMIT, CircuitFault, compile_text};
 use std::alloc::{AllocError, Global};
 use stimulus::{StimFault, Stimulus, read_stimulus};
@@ -32,11 +36,12 @@ use trace_print::widths_text;
 /// The place of a fault of a text as a whole.
 const FRONT: Place = Place { line: 1, column: 1 };
 
-/// What is to be done: a reply is said, or a circuit is run under a stimulus with these leaves watched, each by its number.
+/// What is to be done: a reply is said, or a circuit is run under a stimulus, with these leaves watched or dumped, each by its number.
 #[derive(Drop)]
 pub enum Decision {
     Say(Reply),
     Run(Built, Stimulus, List<u32>),
+    Dump(Built, Stimulus, List<u32>),
 }
 
 /// A status and the bytes that are written.
@@ -47,11 +52,11 @@ pub struct Reply {
 }
 
 /// What the command answers to a joined text within its limit.
-pub fn judge(alloc: Global, command: Command, text: &[u8]) -> Result<Decision, AllocError>
+pub fn judge(alloc: Global, command: Command<'_, '_>, text: &[u8]) -> Result<Decision, AllocError>
     requires within { length text.now ≤ joined_limit }
-    requires workers { AreWorkers command }
-    ensures judges { IfOk result (Gives (Judges command text.now)) }
-    ensures fits { IfOk result (IsFor command) }
+    requires workers { AreWorkers (job command) }
+    ensures judges { IfOk result (Gives (Judges (job command.entry) text.now)) }
+    ensures fits { IfOk result (IsFor (job command.entry)) }
 {
     match split(text) {
         Some((circuit, stimulus)) => Ok(judge_part(alloc, command, circuit, stimulus)?),
@@ -60,34 +65,41 @@ pub fn judge(alloc: Global, command: Command, text: &[u8]) -> Result<Decision, A
 }
 
 /// What the command answers to a joined text without a line `%stimulus`.
-fn judge_whole(alloc: Global, command: Command, text: &[u8]) -> Result<Decision, AllocError>
+fn judge_whole(alloc: Global, command: Command<'_, '_>, text: &[u8]) -> Result<Decision, AllocError>
     requires within { length text.now ≤ joined_limit }
     requires none { HasNone text.now }
-    requires workers { AreWorkers command }
-    ensures judges { IfOk result (Gives (Judges command text.now)) }
-    ensures fits { IfOk result (IsFor command) }
+    requires workers { AreWorkers (job command) }
+    ensures judges { IfOk result (Gives (Judges (job command.entry) text.now)) }
+    ensures fits { IfOk result (IsFor (job command.entry)) }
 {
     match command {
-        Command::Run => {
-            let reply = refuse_whole(alloc, WholeFault::NoStimulus)?;
-            Ok(Decision::Say(reply))
-        }
+        Command::Run => refuse_unstimulated(alloc),
+        Command::Vcd(_) => refuse_unstimulated(alloc),
         Command::Check => Ok(judge_part(alloc, command, text, &[])?),
         Command::Widths => Ok(judge_part(alloc, command, text, &[])?),
         Command::Cut(_) => Ok(judge_part(alloc, command, text, &[])?),
+        Command::Refine(_) => Ok(judge_part(alloc, command, text, &[])?),
     }
+}
+
+/// What a command that runs a circuit answers to a joined text without a line `%stimulus`.
+fn refuse_unstimulated(alloc: Global) -> Result<Decision, AllocError>
+    ensures { IfOk result (λ d. (reply : TheReply) × (d ≡ Decision.Say reply) × (reply.status ≡ 2) × (reply.bytes.items ≡ whole_bytes WholeFault.NoStimulus first_place)) }
+{
+    let reply = refuse_whole(alloc, WholeFault::NoStimulus)?;
+    Ok(Decision::Say(reply))
 }
 
 /// What the command answers to the parts of a joined text.
 fn judge_part(
     alloc: Global,
-    command: Command,
+    command: Command<'_, '_>,
     circuit: &[u8],
     stimulus: &[u8],
 ) -> Result<Decision, AllocError>
-    requires workers { AreWorkers command }
-    ensures judges { IfOk result (λ d. (joined : List ℕ) → length joined ≤ joined_limit → IsPart command joined circuit.now stimulus.now → Gives (Judges command joined) d) }
-    ensures fits { IfOk result (IsFor command) }
+    requires workers { AreWorkers (job command) }
+    ensures judges { IfOk result (λ d. (joined : List ℕ) → length joined ≤ joined_limit → IsPart (job command.entry) joined circuit.now stimulus.now → Gives (Judges (job command.entry) joined) d) }
+    ensures fits { IfOk result (IsFor (job command.entry)) }
 {
     if circuit.len() > CIRCUIT_LIMIT {
         let reply = refuse_whole(alloc, WholeFault::TooLong)?;
@@ -99,14 +111,14 @@ fn judge_part(
 /// What the command answers to a circuit's text, within its limit, and to a stimulus's text.
 pub fn judge_texts(
     alloc: Global,
-    command: Command,
+    command: Command<'_, '_>,
     circuit: &[u8],
     stimulus: &[u8],
 ) -> Result<Decision, AllocError>
     requires within { length circuit.now ≤ circuit_limit }
-    requires workers { AreWorkers command }
-    ensures judges { IfOk result (Gives (JudgesTexts command circuit.now stimulus.now)) }
-    ensures fits { IfOk result (IsFor command) }
+    requires workers { AreWorkers (job command) }
+    ensures judges { IfOk result (Gives (JudgesTexts (job command.entry) circuit.now stimulus.now)) }
+    ensures fits { IfOk result (IsFor (job command.entry)) }
 {
     match compile_text(alloc, circuit) {
         Ok(built) => Ok(judge_built(alloc, command, built, stimulus)?),
@@ -120,7 +132,7 @@ pub fn judge_texts(
 /// What `run` answers to a circuit's text, within its limit, under a stimulus's text that is longer than its own.
 pub fn judge_under_long(alloc: Global, text: &[u8]) -> Result<Reply, AllocError>
     requires { length text.now ≤ circuit_limit }
-    ensures judges { IfOk result (λ r. (stimulus : List ℕ) → stimulus_limit < length stimulus → JudgesTexts Command.Run text.now stimulus r.status r.bytes.items) }
+    ensures judges { IfOk result (λ r. (stimulus : List ℕ) → stimulus_limit < length stimulus → JudgesTexts Run text.now stimulus r.status r.bytes.items) }
     ensures line { IfOk result (λ r. IsFaultLine r.status r.bytes.items) }
 {
     match compile_text(alloc, text) {
@@ -132,29 +144,51 @@ pub fn judge_under_long(alloc: Global, text: &[u8]) -> Result<Reply, AllocError>
 /// What the command answers to a circuit without a fault.
 fn judge_built(
     alloc: Global,
-    command: Command,
+    command: Command<'_, '_>,
     built: Built,
     stimulus: &[u8],
 ) -> Result<Decision, AllocError>
     requires built { (text : List ℕ) × IsBuilt text built }
-    requires workers { AreWorkers command }
-    ensures judges { IfOk result (λ d. (text : List ℕ) → IsBuilt text built → Gives (JudgesTexts command text stimulus.now) d) }
-    ensures fits { IfOk result (IsFor command) }
+    requires workers { AreWorkers (job command) }
+    ensures judges { IfOk result (λ d. (text : List ℕ) → IsBuilt text built → Gives (JudgesTexts (job command.entry) text stimulus.now) d) }
+    ensures fits { IfOk result (IsFor (job command.entry)) }
 {
     match command {
-        Command::Run => Ok(run(alloc, built, stimulus)?),
-        Command::Check => {
-            let reply = accept(alloc)?;
-            Ok(Decision::Say(reply))
-        }
-        Command::Widths => {
-            let reply = list(alloc, &built.fitted)?;
-            Ok(Decision::Say(reply))
-        }
-        Command::Cut(workers) => {
-            let reply = divide(alloc, &built, workers)?;
-            Ok(Decision::Say(reply))
-        }
+        Command::Run => run(alloc, built, stimulus),
+        Command::Vcd(names) => dump(alloc, built, names, stimulus),
+        Command::Check => answer(alloc, command, built),
+        Command::Widths => answer(alloc, command, built),
+        Command::Cut(_) => answer(alloc, command, built),
+        Command::Refine(_) => answer(alloc, command, built),
+    }
+}
+
+/// What a command that doesn't run the circuit answers to one without a fault.
+fn answer(alloc: Global, command: Command<'_, '_>, built: Built) -> Result<Decision, AllocError>
+    requires built { (text : List ℕ) × IsBuilt text built }
+    requires workers { AreWorkers (job command) }
+    requires unrun { reads_all (job command) ≡ true }
+    ensures judges { IfOk result (λ d. (text stimulus : List ℕ) → IsBuilt text built → Gives (JudgesTexts (job command.entry) text stimulus) d) }
+    ensures fits { IfOk result (IsFor (job command.entry)) }
+{
+    let reply = reply_to(alloc, command, &built)?;
+    Ok(Decision::Say(reply))
+}
+
+/// What it says.
+fn reply_to(alloc: Global, command: Command<'_, '_>, built: &Built) -> Result<Reply, AllocError>
+    requires built { (text : List ℕ) × IsBuilt text built.now }
+    requires workers { AreWorkers (job command) }
+    requires unrun { reads_all (job command) ≡ true }
+    ensures { IfOk result (λ r. (text stimulus : List ℕ) → IsBuilt text built.now → JudgesTexts (job command.entry) text stimulus r.status r.bytes.items) }
+{
+    match command {
+        Command::Check => accept(alloc),
+        Command::Widths => list(alloc, &built.fitted),
+        Command::Cut(workers) => divide(alloc, built, workers),
+        Command::Refine(workers) => divide_refined(alloc, built, workers),
+        Command::Run => unreachable!(),
+        Command::Vcd(_) => unreachable!(),
     }
 }
 
@@ -191,26 +225,80 @@ fn divide(alloc: Global, built: &Built, workers: u32) -> Result<Reply, AllocErro
     })
 }
 
+/// The answer of `refine` to a text without a fault.
+fn divide_refined(alloc: Global, built: &Built, workers: u32) -> Result<Reply, AllocError>
+    requires built { (text : List ℕ) × IsBuilt text built.now }
+    requires some { 1 ≤ workers }
+    requires most { workers ≤ 64 }
+    ensures { IfOk result (λ r. (r.status ≡ 0) × IsRefinedText built.now.fitted.checked.resolved.names (design_of built.now.fitted) workers r.bytes.items) }
+{
+    Ok(Reply {
+        status: 0,
+        bytes: circuit_refine(alloc, &built.ordered, &built.ports, workers)?,
+    })
+}
+
 /// What `run` answers to a circuit without a fault and to a stimulus's text.
-///
-/// More inputs than a `u32` numbers are a want of memory.
 fn run(alloc: Global, built: Built, stimulus: &[u8]) -> Result<Decision, AllocError>
     requires { (text : List ℕ) × IsBuilt text built }
-    ensures judges { IfOk result (λ d. (text : List ℕ) → IsBuilt text built → Gives (JudgesTexts Command.Run text stimulus.now) d) }
-    ensures fits { IfOk result (IsFor Command.Run) }
+    ensures judges { IfOk result (λ d. (text : List ℕ) → IsBuilt text built → Gives (JudgesTexts Run text stimulus.now) d) }
+    ensures fits { IfOk result (IsFor Run) }
 {
-    if stimulus.len() > STIMULUS_LIMIT {
-        let reply = refuse_long_stimulus(alloc)?;
+    match take_stimulus(alloc, &built, stimulus)? {
+        Ok(settings) => watching(alloc, built, settings),
+        Err(reply) => Ok(Decision::Say(reply)),
+    }
+}
+
+/// What `vcd` answers to a circuit without a fault and to a stimulus's text. The words are looked at before that text.
+fn dump(
+    alloc: Global,
+    built: Built,
+    names: &[&str],
+    stimulus: &[u8],
+) -> Result<Decision, AllocError>
+    requires { (text : List ℕ) × IsBuilt text built }
+    ensures judges { IfOk result (λ d. (text : List ℕ) → IsBuilt text built → Gives (JudgesTexts (Vcd (map (λ name. name.now) names.now)) text stimulus.now) d) }
+    ensures fits { IfOk result (IsFor (Vcd (map (λ name. name.now) names.now))) }
+{
+    let Some(numbers) = variables(alloc, &built.ordered, &built.ports, names)? else {
+        let reply = refuse_whole(alloc, WholeFault::WatchUnknown)?;
         return Ok(Decision::Say(reply));
+    };
+    match take_stimulus(alloc, &built, stimulus)? {
+        Ok(settings) => Ok(Decision::Dump(built, settings, numbers)),
+        Err(reply) => Ok(Decision::Say(reply)),
+    }
+}
+
+/// The stimulus of a text for a circuit, or the line with which the text is refused.
+///
+/// More inputs than a `u32` numbers are a want of memory.
+fn take_stimulus(
+    alloc: Global,
+    built: &Built,
+    text: &[u8],
+) -> Result<Result<Stimulus, Reply>, AllocError>
+    requires { (text : List ℕ) × IsBuilt text built.now }
+    ensures formed { IfOk result (λ taken. IfOk taken (IsFormed built.now.ports)) }
+    ensures takes { IfOk result (λ taken. IfOk taken (λ s. (circuit : List ℕ) → IsBuilt circuit built.now
+        → TakesStimulus built.now.fitted.checked.resolved.names (design_of built.now.fitted) text.now s)) }
+    ensures status { IfOk result (λ taken. IfErr taken (λ reply. reply.status ≡ 3)) }
+    ensures refuses { IfOk result (λ taken. IfErr taken (λ reply. (circuit : List ℕ) → IsBuilt circuit built.now
+        → RefusesStimulus built.now.fitted.checked.resolved.names (design_of built.now.fitted) text.now reply.bytes.items)) }
+{
+    if text.len() > STIMULUS_LIMIT {
+        let reply = refuse_long_stimulus(alloc)?;
+        return Ok(Err(reply));
     }
     let Ok(_) = u32::try_from(built.ports.inputs.len()) else {
         return Err(AllocError);
     };
-    match read_stimulus(alloc, stimulus, &built.ports) {
-        Ok(settings) => watching(alloc, built, settings),
+    match read_stimulus(alloc, text, &built.ports) {
+        Ok(settings) => Ok(Ok(settings)),
         Err(fault) => {
             let reply = refuse_stimulus(alloc, fault)?;
-            Ok(Decision::Say(reply))
+            Ok(Err(reply))
         }
     }
 }
@@ -238,7 +326,7 @@ fn refuse(alloc: Global, fault: &CircuitFault) -> Result<Reply, AllocError>
     })
 }
 
-/// The line of a fault of the circuit's text as a whole.
+/// The line of a fault of the circuit's text as a whole, or of the words.
 pub fn refuse_whole(alloc: Global, fault: WholeFault) -> Result<Reply, AllocError>
     ensures { IfOk result (λ r. (r.status ≡ 2) × (r.bytes.items ≡ whole_bytes fault first_place)) }
 {

@@ -9,13 +9,15 @@ pub const JOINED_LIMIT: usize = 20_971_520;
 /// The greatest length of a stimulus's text in bytes.
 pub const STIMULUS_LIMIT: usize = 4_194_304;
 
-/// What is wrong with a circuit's or a stimulus's text as a whole.
+/// What is wrong with a circuit's or a stimulus's text as a whole, or with the words that name its leaves.
 #[derive(Clone, Copy, Debug)]
 pub enum WholeFault {
     /// The text has more bytes than its limit.
     TooLong,
-    /// The joined text has no line `%stimulus`, and `run` needs one.
+    /// The joined text has no line `%stimulus`, and a run needs one.
     NoStimulus,
+    /// A word names no leaf of the circuit other than a clock.
+    WatchUnknown,
 }
 
 impl WholeFault {
@@ -26,6 +28,7 @@ impl WholeFault {
         match self {
             WholeFault::TooLong => "TooLong",
             WholeFault::NoStimulus => "NoStimulus",
+            WholeFault::WatchUnknown => "WatchUnknown",
         }
     }
 }

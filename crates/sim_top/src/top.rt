@@ -1,25 +1,34 @@
 //! The top call.
 
-ghost use Rattle.std.specs.Prelude.{◌≡◌, ◌≢◌, ℕ, ◌≤◌, ◌⊎◌, ◌++◌, List, length, Option, Some, None, map, string_bytes, IfOk, IfErr, Err, codes};
-ghost use Rattle.shelf_io.specs.Outside.{Rose};
+ghost use Rattle.std.specs.Prelude.{◌≡◌, ◌≢◌, ℕ, ◌≤◌, ◌⊎◌, ◌++◌, List, length, Option, Some, None, map, string_bytes, IfOk, IfErr, OnOk, OnErr, Err, take, codes};
+ghost use Rattle.shelf_io.specs.Outside.{Appends, Rose};
+ghost use Rattle.fir_tree.specs.LeafNames.{text_of};
 ghost use Rattle.fir_meaning.specs.Components.{design_of};
 ghost use Rattle.circuit_run.specs.Traces.{IsTraceText};
+ghost use Rattle.circuit_run.specs.declared.fault.RunFault.TheVariants.{WriteFault};
+ghost use Rattle.circuit_dump.specs.NetNames.{AreNumbersOf};
+ghost use Rattle.circuit_dump.specs.VcdTexts.{IsVcdText};
 ghost use Rattle.circuit_make.specs.Rings.{InRange, ring_text};
 ghost use Rattle.crew_run.specs.Summaries.{IsSummary};
 ghost use Rattle.sim_engine.specs.Stages.{circuit_limit};
 ghost use Rattle.command_words.specs.Commands.{Request, command_of};
-ghost use Rattle.sim_top.specs.Commands.{AreWorkers, IsCrew, IsInRange, Of_joined, Of_two, Of_made, asked_by, question, workers_asked, NeedsFor, Needs};
+ghost use Rattle.sim_top.specs.Commands.{AreWorkers, IsCrew, IsInRange, Run as Job_run, Of_joined, Of_two, Of_made, asked_by, job, question, workers_asked, refined_asked, NeedsFor, Needs};
 ghost use Rattle.sim_top.specs.Texts.{joined_limit};
 ghost use Rattle.sim_top.specs.Answers.{JudgesTexts, Judges, AnswersTo, Answers};
-ghost use Rattle.sim_top.specs.Endings.{Ends, IsSaid, IsRun, IsFaultLine, IsReply, Gives, IsFor, IsReady, IsRunnable, status_of};
+ghost use Rattle.sim_top.specs.Endings.{Ends, IsSaid, IsRun, IsFaultLine, IsReply, Gives, GivesDump, IsFor, IsReady, IsRunnable, IsDumpable, status_of};
 
 use crate::judge::{Decision, Reply, judge, judge_texts, judge_under_long, refuse_whole};
 use crate::texts::{JOINED_LIMIT, STIMULUS_LIMIT, WholeFault};
-use crate::words::{Asked, Command, read_order};
+use crate::words::{Asked, Command, order_of};
+use bit_words::List;
+use circuit_dump::simulate_vcd;
 use circuit_make::{MakeFault, make_joined};
 use circuit_run::RunFault;
-use crew_run::{Plan, simulate, summarize};
+use command_words::read_words;
+use crew_run::{CutPlan, Host, Plan, simulate, simulate_cut, summarize};
 use crew_workers::Gate;
+use cut_refine::refined_cut;
+use register_table::Closed;
 use shelf_io::{Shelf, Sink, TakeFault, put_all, take_text};
 use sim_engine::{Built, CIRCUIT_LIMIT};
 use std::alloc::{AllocError, Global};
@@ -27,16 +36,17 @@ use std::sync::Wait;
 use std::thread::Threads;
 use stimulus::Stimulus;
 
-/// What runs circuits: a runtime that starts threads and waits, the gate that each worker enters before it evaluates, and how many
-/// workers there are, from 1 to 64.
+/// What runs circuits: a runtime that starts threads and waits, the gate that each worker enters before it evaluates, how many
+/// workers there are, from 1 to 64, and whether they run the refined cut.
 #[derive(Drop)]
 struct Crew<'a, R, G> {
     rt: &'a R,
     gate: &'a G,
     workers: u32,
+    refined: bool,
 }
 
-/// A circuit that is run under a stimulus, and the numbers of the leaves that are watched.
+/// A circuit that is run under a stimulus, and the numbers of the leaves that are watched or dumped.
 #[derive(Clone, Copy)]
 struct Errand<'a> {
     built: &'a Built,
@@ -44,11 +54,12 @@ struct Errand<'a> {
     watch: &'a [u32],
 }
 
-/// What is to be done, and by how many workers a circuit is run, from 1 to 64.
+/// What is to be done, by how many workers a circuit is run, from 1 to 64, and whether the refined cut is run.
 #[derive(Drop)]
 struct Task {
     decision: Decision,
     workers: u32,
+    refined: bool,
 }
 
 /// Reads the texts that the words name from the shelf, writes the answer to the sink, and gives the status: 0 where the
@@ -99,6 +110,7 @@ pub fn run_program<R: Threads + Wait + Sync, H: Shelf, K: Sink, G: Gate + Sync>(
                 rt,
                 gate,
                 workers: task.workers,
+                refined: task.refined,
             };
             match task.decision {
                 Decision::Say(reply) => say(sink, &reply),
@@ -110,6 +122,14 @@ pub fn run_program<R: Threads + Wait + Sync, H: Shelf, K: Sink, G: Gate + Sync>(
                     };
                     run(alloc, &crew, &errand, sink)
                 }
+                Decision::Dump(built, stimulus, numbers) => {
+                    let errand = Errand {
+                        built: &built,
+                        stimulus: &stimulus,
+                        watch: numbers.as_slice(),
+                    };
+                    dump(alloc, &crew, &errand, sink)
+                }
             }
         }
         Err(TakeFault::NoMemory) => 6,
@@ -118,10 +138,10 @@ pub fn run_program<R: Threads + Wait + Sync, H: Shelf, K: Sink, G: Gate + Sync>(
 }
 
 /// What is to be done for a command line.
-fn decide<R: Threads + Wait + Sync, H: Shelf, G: Gate + Sync>(
+fn decide<'x, R: Threads + Wait + Sync, H: Shelf, G: Gate + Sync>(
     alloc: Global,
-    rt: &R,
-    gate: &G,
+    rt: &'x R,
+    gate: &'x G,
     words: &[String],
     shelf: &mut H,
 ) -> Result<Task, TakeFault>
@@ -129,23 +149,35 @@ fn decide<R: Threads + Wait + Sync, H: Shelf, G: Gate + Sync>(
     ensures ready { IfOk result (λ t. IsReady t.decision) }
     ensures crew { IfOk result (λ t. IsCrew t.workers) }
     ensures workers { IfOk result (λ t. (request : Request) → command_of (map string_bytes words.now) ≡ Some request → t.workers ≡ workers_asked request) }
+    ensures refined { IfOk result (λ t. (request : Request) → command_of (map string_bytes words.now) ≡ Some request → t.refined ≡ refined_asked request) }
     ensures usage { IfOk result (λ t. status_of t.decision ≡ 1 → asked_by (map string_bytes words.now) ≡ None) }
     ensures no_command { asked_by (map string_bytes words.now) ≡ None → IfOk result (λ t. status_of t.decision ≡ 1) }
     ensures no_fault { asked_by (map string_bytes words.now) ≡ None → IfErr result (λ f. f ≡ TakeFault.NoMemory) }
     ensures fault { result ≡ Err TakeFault.ReadFault → (name : List ℕ) × Needs (map string_bytes words.now) (H.held shelf.old) name × Rose (H.faults shelf.old name) (H.faults shelf.new name) }
     ensures short { result ≢ Err TakeFault.TooLong }
 {
-    let Some(order) = read_order(alloc, words)? else {
+    let Some(command) = read_words(alloc, words)? else {
         let bytes = Vec::from_slice(alloc, b"usage\n")?;
         return Ok(Task {
             decision: Decision::Say(Reply { status: 1, bytes }),
             workers: 1,
+            refined: false,
         });
     };
-    let workers = order.workers;
-    let crew = Crew { rt, gate, workers };
+    let order = order_of(&command);
+    let (workers, refined) = (order.workers, order.refined);
+    let crew = Crew {
+        rt,
+        gate,
+        workers,
+        refined,
+    };
     match decide_asked(alloc, &crew, order.asked, shelf) {
-        Ok(decision) => Ok(Task { decision, workers }),
+        Ok(decision) => Ok(Task {
+            decision,
+            workers,
+            refined,
+        }),
         Err(fault) => Err(fault),
     }
 }
@@ -154,7 +186,7 @@ fn decide<R: Threads + Wait + Sync, H: Shelf, G: Gate + Sync>(
 fn decide_asked<R: Threads + Wait + Sync, H: Shelf, G: Gate + Sync>(
     alloc: Global,
     crew: &Crew<'_, R, G>,
-    asked: Asked<'_>,
+    asked: Asked<'_, '_>,
     shelf: &mut H,
 ) -> Result<Decision, TakeFault>
     requires some { 1 ≤ crew.now.workers }
@@ -179,12 +211,12 @@ fn decide_asked<R: Threads + Wait + Sync, H: Shelf, G: Gate + Sync>(
 /// What is to be done for a command on a joined text.
 fn decide_joined<H: Shelf>(
     alloc: Global,
-    command: Command,
+    command: Command<'_, '_>,
     name: &str,
     shelf: &mut H,
 ) -> Result<Decision, TakeFault>
-    requires { AreWorkers command }
-    ensures answers { IfOk result (λ d. (texts : List ℕ → Option (List ℕ)) → H.held shelf.old ≡ Some texts → Gives (AnswersTo texts (Of_joined command name.now)) d) }
+    requires { AreWorkers (job command) }
+    ensures answers { IfOk result (λ d. (texts : List ℕ → Option (List ℕ)) → H.held shelf.old ≡ Some texts → Gives (AnswersTo texts (Of_joined (job command.entry) name.now)) d) }
     ensures ready { IfOk result IsReady }
     ensures usage { IfOk result (λ d. status_of d ≢ 1) }
     ensures fault { result ≡ Err TakeFault.ReadFault → Rose (H.faults shelf.old name.now) (H.faults shelf.new name.now) }
@@ -233,7 +265,7 @@ fn decide_under<H: Shelf>(
 ) -> Result<Decision, TakeFault>
     requires { length circuit.now ≤ circuit_limit }
     ensures answers { IfOk result (λ d. (texts : List ℕ → Option (List ℕ)) → H.held shelf.old ≡ Some texts
-        → (given : List ℕ) × (texts stimulus.now ≡ Some given) × Gives (JudgesTexts Command.Run circuit.now given) d) }
+        → (given : List ℕ) × (texts stimulus.now ≡ Some given) × Gives (JudgesTexts Job_run circuit.now given) d) }
     ensures ready { IfOk result IsReady }
     ensures usage { IfOk result (λ d. status_of d ≢ 1) }
     ensures fault { result ≡ Err TakeFault.ReadFault → Rose (H.faults shelf.old stimulus.now) (H.faults shelf.new stimulus.now) }
@@ -275,6 +307,7 @@ fn decide_made<R: Threads + Wait + Sync, G: Gate + Sync>(
             };
             Ok(sum_up(alloc, crew, &errand)?)
         }
+        Decision::Dump(_, _, _) => unreachable!(),
     }
 }
 
@@ -282,8 +315,8 @@ fn decide_made<R: Threads + Wait + Sync, G: Gate + Sync>(
 fn judge_made(alloc: Global, cycles: u32, size: u32) -> Result<Decision, AllocError>
     requires cycles { InRange cycles }
     requires size { InRange size }
-    ensures judges { IfOk result (Gives (Judges Command.Run (ring_text size cycles))) }
-    ensures fits { IfOk result (IsFor Command.Run) }
+    ensures judges { IfOk result (Gives (Judges Job_run (ring_text size cycles))) }
+    ensures fits { IfOk result (IsFor Job_run) }
 {
     let text = make_text(alloc, cycles, size)?;
     Ok(judge(alloc, Command::Run, &text)?)
@@ -356,6 +389,32 @@ fn run<R: Threads + Wait + Sync, G: Gate + Sync, K: Sink>(
     ensures rose { result ≡ 5 → Rose (K.faults sink.old) (K.faults sink.new) }
     ensures spared { result ≢ 5 → K.faults sink.new ≡ K.faults sink.old }
 {
+    match trace(alloc, crew, errand, sink) {
+        Ok(_closed) => 0,
+        Err(RunFault::WriteFault) => 5,
+        Err(RunFault::NoMemory) => 6,
+    }
+}
+
+/// Writes the trace of a circuit, which is run by the refined cut where the crew runs that one.
+fn trace<R: Threads + Wait + Sync, G: Gate + Sync, K: Sink>(
+    alloc: Global,
+    crew: &Crew<'_, R, G>,
+    errand: &Errand<'_>,
+    sink: &mut K,
+) -> Result<List<Closed>, RunFault>
+    requires runnable { IsRunnable errand.now.built.now errand.now.stimulus.now errand.now.watch.now }
+    requires some { 1 ≤ crew.now.workers }
+    requires most { crew.now.workers ≤ 64 }
+    ensures traced { (bytes : List ℕ) × IsTraceText errand.now.built.now.fitted.checked.resolved.names (design_of errand.now.built.now.fitted) errand.now.stimulus.now bytes
+        × (OnOk result (Appends (K.written sink.old) (K.written sink.new) bytes))
+        × (OnErr result ((n : ℕ) × Appends (K.written sink.old) (K.written sink.new) (take n bytes))) }
+    ensures rose { result ≡ Err WriteFault → Rose (K.faults sink.old) (K.faults sink.new) }
+    ensures spared { result ≢ Err WriteFault → K.faults sink.new ≡ K.faults sink.old }
+{
+    if crew.refined {
+        return run_refined(alloc, crew, errand, sink);
+    }
     let plan = Plan {
         ordered: &errand.built.ordered,
         ports: &errand.built.ports,
@@ -363,9 +422,78 @@ fn run<R: Threads + Wait + Sync, G: Gate + Sync, K: Sink>(
         watch: errand.watch,
         workers: crew.workers,
     };
-    match simulate(alloc, crew.rt, crew.gate, &plan, sink) {
+    simulate(alloc, crew.rt, crew.gate, &plan, sink)
+}
+
+/// Runs the refined cut of a circuit and writes its trace.
+fn run_refined<R: Threads + Wait + Sync, G: Gate + Sync, K: Sink>(
+    alloc: Global,
+    crew: &Crew<'_, R, G>,
+    errand: &Errand<'_>,
+    sink: &mut K,
+) -> Result<List<Closed>, RunFault>
+    requires runnable { IsRunnable errand.now.built.now errand.now.stimulus.now errand.now.watch.now }
+    requires some { 1 ≤ crew.now.workers }
+    requires most { crew.now.workers ≤ 64 }
+    ensures traced { (bytes : List ℕ) × IsTraceText errand.now.built.now.fitted.checked.resolved.names (design_of errand.now.built.now.fitted) errand.now.stimulus.now bytes
+        × (OnOk result (Appends (K.written sink.old) (K.written sink.new) bytes))
+        × (OnErr result ((n : ℕ) × Appends (K.written sink.old) (K.written sink.new) (take n bytes))) }
+    ensures rose { result ≡ Err WriteFault → Rose (K.faults sink.old) (K.faults sink.new) }
+    ensures spared { result ≢ Err WriteFault → K.faults sink.new ≡ K.faults sink.old }
+{
+    let cut = refined_cut(alloc, &errand.built.ordered, errand.watch, crew.workers)?;
+    let plan = CutPlan {
+        ordered: &errand.built.ordered,
+        ports: &errand.built.ports,
+        stimulus: errand.stimulus,
+        watch: errand.watch,
+        cut: &cut,
+    };
+    simulate_cut(alloc, crew.rt, crew.gate, &plan, sink)
+}
+
+/// Runs a circuit and writes its dump, and gives 0; or 5 where the sink failed, or 6 where memory was wanted.
+fn dump<R: Threads + Wait + Sync, G: Gate + Sync, K: Sink>(
+    alloc: Global,
+    crew: &Crew<'_, R, G>,
+    errand: &Errand<'_>,
+    sink: &mut K,
+) -> u8
+    requires dumpable { IsDumpable errand.now.built.now errand.now.stimulus.now errand.now.watch.now }
+    requires some { 1 ≤ crew.now.workers }
+    requires most { crew.now.workers ≤ 64 }
+    ensures dumped { (names : List (List ℕ)) → AreNumbersOf errand.now.built.now.ordered.net names errand.now.watch.now
+        → (bytes : List ℕ) × IsVcdText errand.now.built.now.fitted.checked.resolved.names (design_of errand.now.built.now.fitted) names errand.now.stimulus.now bytes
+        × IsRun result bytes (K.written sink.old) (K.written sink.new) }
+    ensures status { (result ≡ 0) ⊎ (result ≡ 5) ⊎ (result ≡ 6) }
+    ensures rose { result ≡ 5 → Rose (K.faults sink.old) (K.faults sink.new) }
+    ensures spared { result ≢ 5 → K.faults sink.new ≡ K.faults sink.old }
+{
+    let host = Host {
+        rt: crew.rt,
+        gate: crew.gate,
+    };
+    let plan = Plan {
+        ordered: &errand.built.ordered,
+        ports: &errand.built.ports,
+        stimulus: errand.stimulus,
+        watch: errand.watch,
+        workers: crew.workers,
+    };
+    match simulate_vcd(alloc, &host, &plan, main_name(errand.built), sink) {
         Ok(_closed) => 0,
         Err(RunFault::WriteFault) => 5,
         Err(RunFault::NoMemory) => 6,
+    }
+}
+
+/// The name of a circuit's main module.
+fn main_name(built: &Built) -> &[u8]
+    ensures { result.now ≡ text_of built.now.fitted.checked.resolved.names (design_of built.now.fitted).main }
+{
+    let circuit = built.fitted.checked.resolved.get();
+    match circuit.names.get(circuit.main.id) {
+        Some(name) => name.as_bytes(),
+        None => &[],
     }
 }

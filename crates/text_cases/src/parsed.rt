@@ -64,6 +64,46 @@ fn an_operation_is_read(rt: HostRuntime) {
     assert_eq!(rt; counts_of(read), Some((1, 2)));
 }
 
+/// Whether the expression that a text of version 4 begins with is the `shr` of that version.
+fn is_shift_of_four(alloc: Global, text: &[u8]) -> Option<bool> {
+    let laid = laid_of(alloc, text)?;
+    let mut reader = Reader::new(alloc, text, &laid);
+    reader.set_major(4);
+    let read = read_expr(alloc, &mut reader).ok()?;
+    Some(matches!(&read.form, Form::Prim(Prim::ShrFour, _, _)))
+}
+
+#[test]
+fn a_shift_is_one_of_its_version(rt: HostRuntime) {
+    assert_eq!(rt; is_shift_of_four(rt.alloc(), b"shr(a, 1)\n"), Some(true));
+    assert_eq!(rt; is_shift_of_four(rt.alloc(), b"shl(a, 1)\n"), Some(false));
+}
+
+/// The number of each item of a circuit, and its code where it is a `stop`.
+fn items_of(alloc: Global, modules: &str) -> Option<Vec<(u32, Option<u128>)>> {
+    let circuit = circuit_with(alloc, modules)?;
+    let mut told = Vec::new(alloc);
+    for item in circuit.prints.as_slice() {
+        told.push((item.number, item.stop)).ok()?;
+    }
+    Some(told)
+}
+
+#[test]
+fn items_are_numbered_over_both_kinds(rt: HostRuntime) {
+    let modules =
+        "  module M :\n    input c : Clock\n    stop(c, c, 0h10)\n    printf(c, c, \"%d\", c) : p\n  module N :\n    stop(a, a, 2) : s\n";
+    match items_of(rt.alloc(), modules) {
+        Some(told) => {
+            assert_eq!(rt;
+                told.as_slice(),
+                [(0, Some(16)), (1, None), (0, Some(2))].as_slice()
+            );
+        }
+        None => assert!(rt; false, "no circuit"),
+    }
+}
+
 /// How many steps the reference has that a text begins with.
 fn steps_of(alloc: Global, text: &[u8]) -> Option<usize> {
     let laid = laid_of(alloc, text)?;

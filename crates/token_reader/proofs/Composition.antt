@@ -13,7 +13,7 @@ use Rattle.fir_layout.specs.declared.laid.Laid.{Laid}
 use Rattle.fir_layout.specs.Pieces.{Piece, piece_of, pieces_of}
 use Rattle.fir_tree.specs.declared.fault.ParseFault.{ParseFault}
 use Rattle.fir_tree.specs.declared.fault.ParseFault.TheVariants.{TooDeep}
-use Rattle.fir_grammar.specs.Grammar.{Terminal, Takes, Kept, Nothing, Its_place, Its_name, Its_magnitude, Its_place_and_magnitude, Its_number, Symbol, Is, A, Rule, IsCase, Derives, expands, Front, cut, takes_on, goes_into, Values, tree, start_of, Spells, no_symbol, a_rule, a_piece, a_place, a_name, a_magnitude, a_placed_magnitude, a_quoted}
+use Rattle.fir_grammar.specs.Grammar.{Terminal, Takes, Kept, Nothing, Its_place, Its_name, Its_magnitude, Its_place_and_magnitude, Its_number, Its_pieces, Symbol, Is, A, Rule, IsCase, Derives, expands, Front, cut, takes_on, goes_into, Values, tree, start_of, Spells, no_symbol, a_rule, a_piece, a_place, a_name, a_magnitude, a_placed_magnitude, a_quoted, a_format}
 use Rattle.fir_grammar.specs.Faults.{IsShallow, IsDeepAt, IsNamed, is_deep, levels}
 use Rattle.fir_grammar.specs.Reading.{part, Leads, IsSettled, HasRead, IsRefused, no_memory, at_bad_piece, at_deep_piece}
 use Rattle.fir_grammar.proofs.Cases.{choose, some_injective}
@@ -31,11 +31,12 @@ joined (Is Its_name s ∷ ss) more vs ws = (vs.0, joined ss more vs.1 ws)
 joined (Is Its_magnitude s ∷ ss) more vs ws = (vs.0, joined ss more vs.1 ws)
 joined (Is Its_place_and_magnitude s ∷ ss) more vs ws = (vs.0, (vs.1.0, joined ss more vs.1.1 ws))
 joined (Is Its_number s ∷ ss) more vs ws = (vs.0, joined ss more vs.1 ws)
+joined (Is Its_pieces s ∷ ss) more vs ws = (vs.0, joined ss more vs.1 ws)
 joined (A r ∷ ss) more vs ws = (vs.0, joined ss more vs.1 ws)
 
 -- what is spelled up to a place, and then from it on
-pub spells_joined : (text : List ℕ) {ss more : List Symbol} {ls mid rest : List Laid} {names between after : List (List ℕ)} {vs : Values ss} {ws : Values more}
-    → Spells text ss ls names vs mid between → Spells text more mid between ws rest after → Spells text (ss ++ more) ls names (joined ss more vs ws) rest after
+pub spells_joined : {major : ℕ} (text : List ℕ) {ss more : List Symbol} {ls mid rest : List Laid} {names between after : List (List ℕ)} {vs : Values ss} {ws : Values more}
+    → Spells major text ss ls names vs mid between → Spells major text more mid between ws rest after → Spells major text (ss ++ more) ls names (joined ss more vs ws) rest after
 spells_joined text no_symbol d = d
 spells_joined text (a_rule case inner others) d = a_rule case inner (spells_joined text others d)
 spells_joined text (a_piece h others) d = a_piece h (spells_joined text others d)
@@ -44,6 +45,7 @@ spells_joined text (a_name h adds others) d = a_name h adds (spells_joined text 
 spells_joined text (a_magnitude h is others) d = a_magnitude h is (spells_joined text others d)
 spells_joined text (a_placed_magnitude h is others) d = a_placed_magnitude h is (spells_joined text others d)
 spells_joined text (a_quoted h is others) d = a_quoted h is (spells_joined text others d)
+spells_joined text (a_format h is others) d = a_format h is (spells_joined text others d)
 
 -- what stands behind settled symbols is settled
 pub settled_behind : (ss rest : List Symbol) → IsSettled (ss ++ rest) → IsSettled rest
@@ -58,7 +60,7 @@ pub shallow_joined : {pieces : List Piece} {i j k : ℕ} → IsShallow pieces i 
 shallow_joined {j} a b = record { none = λ n l m. ⊎_elim (λ before. a.none n l before) (λ behind. b.none n behind m) (cases_lt n j) }
 
 -- no symbols, which take no piece
-pub read_nothing : (text : List ℕ) (list : List Laid) (i : ℕ) (names : List (List ℕ)) → i ≤ length list → HasRead [] text list i names tt i names
+pub read_nothing : {major : ℕ} (text : List ℕ) (list : List Laid) (i : ℕ) (names : List (List ℕ)) → i ≤ length list → HasRead major [] text list i names tt i names
 read_nothing text list i names within = record {
   onward = omega arith;
   within = within;
@@ -68,8 +70,8 @@ read_nothing text list i names within = record {
 }
 
 -- symbols, and then others behind them
-pub read_then : {ss more : List Symbol} {text : List ℕ} {list : List Laid} {i j k : ℕ} {names between after : List (List ℕ)} {vs : Values ss} {ws : Values more}
-    → HasRead ss text list i names vs j between → HasRead more text list j between ws k after → HasRead (ss ++ more) text list i names (joined ss more vs ws) k after
+pub read_then : {major : ℕ} {ss more : List Symbol} {text : List ℕ} {list : List Laid} {i j k : ℕ} {names between after : List (List ℕ)} {vs : Values ss} {ws : Values more}
+    → HasRead major ss text list i names vs j between → HasRead major more text list j between ws k after → HasRead major (ss ++ more) text list i names (joined ss more vs ws) k after
 read_then {ss} {more} {text} {list} {i} {j} {k} a b = record {
   onward = omega (arith, a.onward, b.onward);
   within = b.within;
@@ -93,8 +95,8 @@ refused_first {ss} more {text} {list} {i} (at_deep_piece k l h onward front shal
     rw regrouped (front (more ++ rest) (rw regrouped at settled))) shallow deep
 
 -- a refusal behind symbols that were read is one of all of them
-pub refused_behind : {ss more : List Symbol} {text : List ℕ} {list : List Laid} {i j : ℕ} {names between : List (List ℕ)} {vs : Values ss} {fault : ParseFault}
-    → HasRead ss text list i names vs j between → IsRefused more text list j fault → IsRefused (ss ++ more) text list i fault
+pub refused_behind : {major : ℕ} {ss more : List Symbol} {text : List ℕ} {list : List Laid} {i j : ℕ} {names between : List (List ℕ)} {vs : Values ss} {fault : ParseFault}
+    → HasRead major ss text list i names vs j between → IsRefused more text list j fault → IsRefused (ss ++ more) text list i fault
 refused_behind a no_memory = no_memory
 refused_behind {ss} {more} {text} {list} {i} {j} a (at_bad_piece k l fault h stops shallow named) = at_bad_piece k l fault h
     (λ rest settled. let regrouped : (ss ++ more) ++ rest ≡ ss ++ (more ++ rest) = append_assoc ss more rest in
@@ -172,8 +174,8 @@ enters_always {r} {body} pieces i case only = record {
     sole_derived {rest} {ps} (expands other also d) = let P : List Symbol → Type 0 = λ b. Derives (b ++ rest) ps in subst P (only other also) d
 
 -- a rule is read where its case is
-pub read_case : {r : Rule} {body : List Symbol} {text : List ℕ} {list : List Laid} {i j : ℕ} {names after : List (List ℕ)} {ws : Values body} (case : IsCase r body)
-    → Enters (pieces_of text list) i case → HasRead body text list i names ws j after → HasRead (A r ∷ []) text list i names (tree case ws, tt) j after
+pub read_case : {major : ℕ} {r : Rule} {body : List Symbol} {text : List ℕ} {list : List Laid} {i j : ℕ} {names after : List (List ℕ)} {ws : Values body} (case : IsCase r body)
+    → Enters (pieces_of text list) i case → HasRead major body text list i names ws j after → HasRead major (A r ∷ []) text list i names (tree major case ws, tt) j after
 read_case case enters h = record {
   onward = h.onward;
   within = h.within;
@@ -229,9 +231,9 @@ refused_deep keeps s {text} {list} {i} {l} h takes deep = at_deep_piece i l h (o
     (record { piece = piece_of text l; stands = piece_at text list i l h; deep = deep })
 
 -- One symbol that takes a piece is read where the piece is spelled as it and doesn't go too deep.
-pub read_piece : {keeps : Kept} {s : Terminal} {text : List ℕ} {list : List Laid} {i : ℕ} {names after : List (List ℕ)} {vs : Values (Is keeps s ∷ [])} {l : Laid} → slice_get list i ≡ Some l
+pub read_piece : {major : ℕ} {keeps : Kept} {s : Terminal} {text : List ℕ} {list : List Laid} {i : ℕ} {names after : List (List ℕ)} {vs : Values (Is keeps s ∷ [])} {l : Laid} → slice_get list i ≡ Some l
     → Takes s (piece_of text l) → is_deep (levels (take i (pieces_of text list))) (piece_of text l) ≡ false
-    → Spells text (Is keeps s ∷ []) (l ∷ drop (i + 1) list) names vs (drop (i + 1) list) after → HasRead (Is keeps s ∷ []) text list i names vs (i + 1) after
+    → Spells major text (Is keeps s ∷ []) (l ∷ drop (i + 1) list) names vs (drop (i + 1) list) after → HasRead major (Is keeps s ∷ []) text list i names vs (i + 1) after
 read_piece {keeps} {s} {text} {list} {i} {names} {after} {vs} {l} h takes flat spelled = record {
   onward = omega arith;
   within = let inside : i < length list = slice_get_within list i l h in omega (arith, inside);
@@ -242,24 +244,24 @@ read_piece {keeps} {s} {text} {list} {i} {names} {after} {vs} {l} h takes flat s
 
 -- What a reader with a loop has yet to do: the rest, read from j on, makes the symbols read from i on, and a refusal of
 -- the rest is one of the symbols.
-pub record Awaits (symbols : List Symbol) (text : List ℕ) (list : List Laid) (i : ℕ) (names : List (List ℕ)) (rest : List Symbol) (build : Values rest → Values symbols) (j : ℕ) (now : List (List ℕ)) : Type 0 where
-  pub finish : {vs : Values rest} {k : ℕ} {after : List (List ℕ)} → HasRead rest text list j now vs k after → HasRead symbols text list i names (build vs) k after
+pub record Awaits (major : ℕ) (symbols : List Symbol) (text : List ℕ) (list : List Laid) (i : ℕ) (names : List (List ℕ)) (rest : List Symbol) (build : Values rest → Values symbols) (j : ℕ) (now : List (List ℕ)) : Type 0 where
+  pub finish : {vs : Values rest} {k : ℕ} {after : List (List ℕ)} → HasRead major rest text list j now vs k after → HasRead major symbols text list i names (build vs) k after
   pub refuse : {fault : ParseFault} → IsRefused rest text list j fault → IsRefused symbols text list i fault
 
 -- nothing is read yet
-pub awaits_all : (symbols : List Symbol) (text : List ℕ) (list : List Laid) (i : ℕ) (names : List (List ℕ)) → Awaits symbols text list i names symbols (λ vs. vs) i names
+pub awaits_all : {major : ℕ} (symbols : List Symbol) (text : List ℕ) (list : List Laid) (i : ℕ) (names : List (List ℕ)) → Awaits major symbols text list i names symbols (λ vs. vs) i names
 awaits_all symbols text list i names = record { finish = λ h. h; refuse = λ h. h }
 
 -- the first of the symbols are read
-pub awaits_rest : (ss more : List Symbol) {text : List ℕ} {list : List Laid} {i j : ℕ} {names between : List (List ℕ)} {vs : Values ss} → HasRead ss text list i names vs j between
-    → Awaits (ss ++ more) text list i names more (λ ws. joined ss more vs ws) j between
+pub awaits_rest : {major : ℕ} (ss more : List Symbol) {text : List ℕ} {list : List Laid} {i j : ℕ} {names between : List (List ℕ)} {vs : Values ss} → HasRead major ss text list i names vs j between
+    → Awaits major (ss ++ more) text list i names more (λ ws. joined ss more vs ws) j between
 awaits_rest ss more h = record { finish = λ g. read_then h g; refuse = λ g. refused_behind h g }
 
 -- once more round a rule that ends in a rule
-pub awaits_round : {symbols : List Symbol} {text : List ℕ} {list : List Laid} {i j k : ℕ} {names now after : List (List ℕ)} {r next : Rule} {build : Values (A r ∷ []) → Values symbols}
-    → Awaits symbols text list i names (A r ∷ []) build j now → (front : List Symbol) (case : IsCase r (front ++ A next ∷ [])) → Enters (pieces_of text list) j case
-    → {us : Values front} → HasRead front text list j now us k after
-    → Awaits symbols text list i names (A next ∷ []) (λ vs. build (tree case (joined front (A next ∷ []) us vs), tt)) k after
+pub awaits_round : {major : ℕ} {symbols : List Symbol} {text : List ℕ} {list : List Laid} {i j k : ℕ} {names now after : List (List ℕ)} {r next : Rule} {build : Values (A r ∷ []) → Values symbols}
+    → Awaits major symbols text list i names (A r ∷ []) build j now → (front : List Symbol) (case : IsCase r (front ++ A next ∷ [])) → Enters (pieces_of text list) j case
+    → {us : Values front} → HasRead major front text list j now us k after
+    → Awaits major symbols text list i names (A next ∷ []) (λ vs. build (tree major case (joined front (A next ∷ []) us vs), tt)) k after
 awaits_round a front case enters h = record {
   finish = λ g. a.finish (read_case case enters (read_then h g));
   refuse = λ g. a.refuse (refused_case case enters (refused_behind h g));

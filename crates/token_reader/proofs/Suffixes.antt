@@ -1,5 +1,5 @@
 -- Calls, and the marks that begin suffixes: what is taken, and what goes too deep.
-use Rattle.std.proofs.Common.{◌≡◌, ℕ, ◌+◌, ◌-◌, ◌<◌, ◌≤◌, Bool, true, false, ◌||◌, ◌==◌, nat_le, IsTrue, List, length, take, slice_get, Some, refl, ◌∙◌, ap, arith, ⊎_elim}
+use Rattle.std.proofs.Common.{◌≡◌, ℕ, ◌+◌, ◌-◌, ◌<◌, ◌≤◌, Bool, true, false, ◌||◌, ◌&&◌, not, codes, ◌++◌, ◌==◌, nat_le, IsTrue, List, length, take, slice_get, Some, refl, ◌∙◌, ap, arith, ⊎_elim}
 use Rattle.std.proofs.lemmas.Bool.{eqb-true, or_cases, le-leb}
 use Rattle.std.proofs.lemmas.Bool.Decides.{nat_tests}
 use Rattle.place_text.specs.Places.{place}
@@ -8,7 +8,7 @@ use Rattle.fir_layout.specs.declared.laid.Laid.{Laid}
 use Rattle.fir_layout.specs.Pieces.{Piece, A_token, piece_of, pieces_of}
 use Rattle.fir_tree.specs.declared.fault.ParseFault.TheVariants.{TooDeep}
 use Rattle.fir_grammar.specs.Grammar.{The_mark, The_call, Takes, start_of}
-use Rattle.fir_grammar.specs.Faults.{most, last_suffixes, Levels, levels, is_deep}
+use Rattle.fir_grammar.specs.Faults.{most, last_suffixes, Levels, levels, is_deep, is_item}
 use Rattle.token_reader.specs.Standing.{StandsIn}
 use Rattle.token_reader.specs.Parts.{IsTaken, IsNotTaken, StartsWith, is_suffix_mark}
 use Rattle.token_reader.proofs.Composition.{one_at}
@@ -19,23 +19,23 @@ few n h = grind (arith, nat_tests)
 
 -- a call opens one bracket more
 
-call_piece : (at : Levels) (name : List ℕ) (brackets : ℕ) (p : Piece) → Takes (The_call name) p → length at.suffixes ≡ brackets + 1 → is_deep at p ≡ nat_le most brackets
-call_piece at name brackets (A_token kind.Call bytes) same counted = ap (nat_le most) (let less : length at.suffixes - 1 ≡ brackets = omega (arith, counted) in less)
-call_piece at name brackets _ none counted = absurd none
+call_piece : (at : Levels) (name : List ℕ) (brackets : ℕ) (p : Piece) → is_item (name ++ codes "(") ≡ false → Takes (The_call name) p → length at.suffixes ≡ brackets + 1 → is_deep at p ≡ nat_le most brackets
+call_piece at name brackets (A_token kind.Call bytes) other same counted = ap (λ (b : List ℕ). not (is_item b) && nat_le most (length at.suffixes - 1)) same ∙ rw other refl ∙ ap (nat_le most) (let less : length at.suffixes - 1 ≡ brackets = omega (arith, counted) in less)
+call_piece at name brackets _ other none counted = absurd none
 
 pub call_taken : (name : List ℕ) (brackets : ℕ) (text : List ℕ) (list : List Laid) (i : ℕ) (l : Laid) → StandsIn (pieces_of text list) i brackets → slice_get list i ≡ Some l
-    → StartsWith (The_call name) text list i → brackets < most → IsTaken (The_call name) text list i l
-call_taken name brackets text list i l s h starts below =
+    → is_item (name ++ codes "(") ≡ false → StartsWith (The_call name) text list i → brackets < most → IsTaken (The_call name) text list i l
+call_taken name brackets text list i l s h other starts below =
     let same : l ≡ starts.part = one_at list i l starts.part h starts.here in
     let takes : Takes (The_call name) (piece_of text l) = rw same starts.takes in
-    record { here = h; takes = takes; flat = call_piece (levels (take i (pieces_of text list))) name brackets (piece_of text l) takes s.counted ∙ few brackets below }
+    record { here = h; takes = takes; flat = call_piece (levels (take i (pieces_of text list))) name brackets (piece_of text l) other takes s.counted ∙ few brackets below }
 
 pub call_deep : (name : List ℕ) (brackets : ℕ) (text : List ℕ) (list : List Laid) (i : ℕ) (l : Laid) → StandsIn (pieces_of text list) i brackets → slice_get list i ≡ Some l
-    → StartsWith (The_call name) text list i → most ≤ brackets → IsNotTaken (The_call name) text list i (TooDeep (place text (start_of l)))
-call_deep name brackets text list i l s h starts many =
+    → is_item (name ++ codes "(") ≡ false → StartsWith (The_call name) text list i → most ≤ brackets → IsNotTaken (The_call name) text list i (TooDeep (place text (start_of l)))
+call_deep name brackets text list i l s h other starts many =
     let same : l ≡ starts.part = one_at list i l starts.part h starts.here in
     let takes : Takes (The_call name) (piece_of text l) = rw same starts.takes in
-    too_deep (The_call name) text list i l h takes (call_piece (levels (take i (pieces_of text list))) name brackets (piece_of text l) takes s.counted ∙ le-leb most brackets many)
+    too_deep (The_call name) text list i l h takes (call_piece (levels (take i (pieces_of text list))) name brackets (piece_of text l) other takes s.counted ∙ le-leb most brackets many)
 
 -- A `.` counts as a suffix, and a `[` as a suffix and as a bracket.
 

@@ -1,9 +1,9 @@
 //! Tokens that open a bracket or begin a suffix: they may go too deep.
 
-ghost use Rattle.std.specs.Prelude.{◌≡◌, ◌<◌, ℕ, List, length, take, IfOk, IsTrue};
+ghost use Rattle.std.specs.Prelude.{◌≡◌, ◌<◌, ◌++◌, ℕ, false, codes, List, length, take, IfOk, IsTrue};
 ghost use Rattle.fir_layout.specs.Pieces.{pieces_of};
 ghost use Rattle.fir_grammar.specs.Grammar.{The_call, The_mark};
-ghost use Rattle.fir_grammar.specs.Faults.{most, levels, last_suffixes};
+ghost use Rattle.fir_grammar.specs.Faults.{most, levels, last_suffixes, is_item};
 ghost use Rattle.token_reader.specs.Standing.{StandsIn};
 ghost use Rattle.token_reader.specs.Parts.{IsSource, AnswersPiece, StartsWith, is_opening, is_suffix_mark};
 
@@ -43,7 +43,7 @@ pub fn open_bracket(
 pub fn open_call(text: &Text, laid: &[Laid], at: usize, brackets: u32) -> Result<Laid, ParseFault>
     requires source { IsSource text.now laid.now }
     requires stands { StandsIn (pieces_of text.now laid.now) at brackets }
-    ensures taken { (name : List ℕ) → StartsWith (The_call name) text.now laid.now at → AnswersPiece (The_call name) text.now laid.now at result }
+    ensures taken { (name : List ℕ) → is_item (name ++ codes "(") ≡ false → StartsWith (The_call name) text.now laid.now at → AnswersPiece (The_call name) text.now laid.now at result }
     ensures within { IfOk result (λ _. at < length laid.now) }
     ensures few { IfOk result (λ _. brackets < most) }
 {

@@ -117,10 +117,9 @@ pub fn before_bracket(call: &[u8]) -> Option<&[u8]>
 }
 
 /// The words of constructs that aren't supported.
-const LISTED_WORDS: [&str; 46] = [
+const LISTED_WORDS: [&str; 43] = [
     "extmodule",
     "intmodule",
-    "public",
     "parameter",
     "defname",
     "intrinsic",
@@ -162,8 +161,6 @@ const LISTED_WORDS: [&str; 46] = [
     "object",
     "AsyncReset",
     "asAsyncReset",
-    "printf",
-    "stop",
 ];
 
 /// Whether a word is the name of a construct that isn't supported.

@@ -17,8 +17,15 @@ use std::alloc::{AllocError, Global};
 pub fn vcd_header(alloc: Global, top: &str, vars: &List<PortLeaf>) -> Result<Vec<u8>, AllocError>
     ensures { IfOk result (λ text. text.items ≡ header_text top.now vars.now) }
 {
+    front(alloc, top.as_bytes(), vars)
+}
+
+/// The same by the bytes of the scope's name.
+pub(crate) fn front(alloc: Global, top: &[u8], vars: &List<PortLeaf>) -> Result<Vec<u8>, AllocError>
+    ensures { IfOk result (λ text. text.items ≡ header_text top.now vars.now) }
+{
     let mut text = Vec::from_slice(alloc, b"$timescale 1 ns $end\n$scope module ")?;
-    text.extend_from_slice(top.as_bytes())?;
+    text.extend_from_slice(top)?;
     text.extend_from_slice(b" $end\n")?;
     push_variables(&mut text, vars.as_slice())?;
     text.extend_from_slice(b"$upscope $end\n$enddefinitions $end\n")?;

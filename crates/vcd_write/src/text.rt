@@ -4,7 +4,7 @@ ghost use Rattle.std.specs.List.{AllZip};
 ghost use Rattle.vcd_write.specs.Reading.{IsOfLeaf};
 ghost use Rattle.vcd_write.specs.Pieces.{dump_telling};
 
-use crate::dump::{vcd_cycle, vcd_end, vcd_header};
+use crate::dump::{front, vcd_cycle, vcd_end};
 use bit_words::{List, Row};
 use ground_net::PortLeaf;
 use row_texts::{Spot, Teller};
@@ -13,7 +13,8 @@ use std::alloc::{AllocError, Global};
 /// The dump of these variables, in a scope of this name: its front, what each row adds behind the row before it, and its end.
 #[derive(Clone, Copy)]
 pub struct DumpText<'a> {
-    pub top: &'a str,
+    /// The bytes of the scope's name.
+    pub top: &'a [u8],
     pub vars: &'a List<PortLeaf>,
 }
 
@@ -23,7 +24,7 @@ impl Teller for DumpText<'_> {
     ghost reads = { λ t row. AllZip IsOfLeaf t.vars.now row };
 
     fn head(&self, alloc: Global) -> Result<Vec<u8>, AllocError> {
-        vcd_header(alloc, self.top, self.vars)
+        front(alloc, self.top, self.vars)
     }
 
     fn row(

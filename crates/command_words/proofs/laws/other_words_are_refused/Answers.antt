@@ -69,3 +69,23 @@ returns-clause-no_cycles c = refl
 pub returns-clause-no_size : goal.returns-clause-no_size
 unfolding clap_on_literals
 returns-clause-no_size c = refl
+
+pub returns-clause-no_circuit : goal.returns-clause-no_circuit
+unfolding clap_on_literals
+returns-clause-no_circuit c = refl
+
+pub returns-clause-no_dumper : goal.returns-clause-no_dumper
+unfolding clap_on_literals
+returns-clause-no_dumper c = refl
+
+pub returns-clause-flag_twice : goal.returns-clause-flag_twice
+unfolding clap_on_literals
+returns-clause-flag_twice c = refl
+
+pub returns-clause-flag_value : goal.returns-clause-flag_value
+unfolding clap_on_literals
+returns-clause-flag_value c = refl
+
+pub returns-clause-flag_elsewhere : goal.returns-clause-flag_elsewhere
+unfolding clap_on_literals
+returns-clause-flag_elsewhere c = refl

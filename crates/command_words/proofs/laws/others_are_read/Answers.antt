@@ -17,3 +17,11 @@ returns-clause-widths c = refl
 pub returns-clause-cut : goal.returns-clause-cut
 unfolding clap_on_literals
 returns-clause-cut c = refl
+
+pub returns-clause-refine : goal.returns-clause-refine
+unfolding clap_on_literals
+returns-clause-refine c = refl
+
+pub returns-clause-refine_all : goal.returns-clause-refine_all
+unfolding clap_on_literals
+returns-clause-refine_all c = refl

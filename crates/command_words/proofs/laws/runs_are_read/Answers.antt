@@ -21,3 +21,11 @@ returns-clause-attached c = refl
 pub returns-clause-behind : goal.returns-clause-behind
 unfolding clap_on_literals
 returns-clause-behind c = refl
+
+pub returns-clause-refined : goal.returns-clause-refined
+unfolding clap_on_literals
+returns-clause-refined c = refl
+
+pub returns-clause-refined_behind : goal.returns-clause-refined_behind
+unfolding clap_on_literals
+returns-clause-refined_behind c = refl

@@ -1,7 +1,7 @@
 use Rattle.std.proofs.Common.{ℕ, ◌+◌, ◌-◌, refl, ap, arith}
 use Rattle.std.proofs.lemmas.Result.{err_from_is_err_and}
 use Rattle.fir_grammar.specs.Reading.{no_memory}
-use Rattle.fir_expr.proofs.Bracketed.{opener_call, stands_opened, stands_indexed}
+use Rattle.fir_expr.proofs.Bracketed.{opener_call, operation_no_item, stands_opened, stands_indexed}
 use Rattle.token_reader.proofs.Depth.{whole_stands}
 use Rattle.fir_expr.proofs.Passing.{room_step, room_name}
 use Rattle.token_reader.proofs.Sources.{source_part}
@@ -29,81 +29,81 @@ expr-returns-in_ok-component-in-Component t c = component_read (component_here c
 pub mux-returns-in_err-call : goal.mux-returns-in_err-call
 mux-returns-in_err-call t c =
     let p = err_from_is_err_and c.from_residual.result c.from_residual.ensures.1 in
-    rw (p.1, p.2) (mux_no_call c.requires.start.stands c.requires.head (c.in_err-call.ensures.taken (codes "mux") c.requires.head))
+    rw (p.1, p.2) (mux_no_call c.requires.start.stands c.requires.head (c.in_err-call.ensures.taken (codes "mux") refl c.requires.head))
 
 pub mux-operands-requires : goal.mux-operands-requires
 mux-operands-requires t c =
-    let taken = c.in_ok-call.ensures.taken (codes "mux") c.requires.head in
+    let taken = c.in_ok-call.ensures.taken (codes "mux") refl c.requires.head in
     let few = c.in_ok-call.ensures.few in
     let within = c.in_ok-call.ensures.within in
     let e = room_step c.args.names.now c.args.from.now.laid.now c.args.at c.in_ok-call.call taken.here in
-    (omega (arith, few, c.decreases), (record { source = c.requires.start.source; room = omega (arith, e, c.requires.start.room); stands = stands_opened (opener_call (codes "mux")) taken c.requires.start.stands few }, omega (arith, within)))
+    (omega (arith, few, c.decreases), (record { source = c.requires.start.source; room = omega (arith, e, c.requires.start.room); stands = stands_opened (opener_call (codes "mux") refl) taken c.requires.start.stands few }, omega (arith, within)))
 
 pub mux-returns-in_err-close : goal.mux-returns-in_err-close
 mux-returns-in_err-close t c =
     let p = err_from_is_err_and c.from_residual-in_err-close.result c.from_residual-in_err-close.ensures.1 in
-    rw (p.1, p.2) (mux_no_operand c.requires.start.stands c.requires.head (c.in_ok-call.ensures.taken (codes "mux") c.requires.head) c.in_err-close.ensures.err)
+    rw (p.1, p.2) (mux_no_operand c.requires.start.stands c.requires.head (c.in_ok-call.ensures.taken (codes "mux") refl c.requires.head) c.in_err-close.ensures.err)
 
 pub mux-returns-in_err-take_mark : goal.mux-returns-in_err-take_mark
 mux-returns-in_err-take_mark t c =
     let p = err_from_is_err_and c.from_residual-in_err-take_mark.result c.from_residual-in_err-take_mark.ensures.1 in
-    rw (p.1, p.2) (mux_not_closed c.requires.start.stands c.requires.head (c.in_ok-call.ensures.taken (codes "mux") c.requires.head) c.in_ok-close.ensures.ok c.new-read.ensures c.in_err-take_mark.ensures.taken)
+    rw (p.1, p.2) (mux_not_closed c.requires.start.stands c.requires.head (c.in_ok-call.ensures.taken (codes "mux") refl c.requires.head) c.in_ok-close.ensures.ok c.new-read.ensures c.in_err-take_mark.ensures.taken)
 
 pub mux-place_of_part-place-requires-clause-inside : goal.mux-place_of_part-place-requires-clause-inside
 mux-place_of_part-place-requires-clause-inside t c =
-    source_part c.args.from.now.text.now c.args.from.now.laid.now c.args.at c.in_ok-call.call c.requires.start.source (c.in_ok-call.ensures.taken (codes "mux") c.requires.head).here
+    source_part c.args.from.now.text.now c.args.from.now.laid.now c.args.at c.in_ok-call.call c.requires.start.source (c.in_ok-call.ensures.taken (codes "mux") refl c.requires.head).here
 
 pub mux-returns : goal.mux-returns
 mux-returns t c = rw c.place_of_part-place.ensures
-    (mux_read c.requires.start.stands c.requires.head (c.in_ok-call.ensures.taken (codes "mux") c.requires.head) c.in_ok-close.ensures.ok c.new-read.ensures c.in_ok-take_mark.ensures.taken)
+    (mux_read c.requires.start.stands c.requires.head (c.in_ok-call.ensures.taken (codes "mux") refl c.requires.head) c.in_ok-close.ensures.ok c.new-read.ensures c.in_ok-take_mark.ensures.taken)
 
 -- operations
 
 pub operation-returns-in_err-call : goal.operation-returns-in_err-call
 operation-returns-in_err-call t c =
     let p = err_from_is_err_and c.from_residual.result c.from_residual.ensures.1 in
-    rw (p.1, p.2) (operation_no_call c.args.prim c.requires.written c.requires.start.stands c.requires.head refl refl (c.in_err-call.ensures.taken (name_of c.args.prim) c.requires.head))
+    rw (p.1, p.2) (operation_no_call c.args.prim c.requires.written c.requires.start.stands c.requires.head refl refl (c.in_err-call.ensures.taken (name_of c.args.prim) (operation_no_item c.args.prim) c.requires.head))
 
 pub operation-operands-requires : goal.operation-operands-requires
 operation-operands-requires t c =
-    let taken = c.in_ok-call.ensures.taken (name_of c.args.prim) c.requires.head in
+    let taken = c.in_ok-call.ensures.taken (name_of c.args.prim) (operation_no_item c.args.prim) c.requires.head in
     let few = c.in_ok-call.ensures.few in
     let within = c.in_ok-call.ensures.within in
     let e = room_step c.args.names.now c.args.from.now.laid.now c.args.at c.in_ok-call.call taken.here in
-    (omega (arith, few, c.decreases), (record { source = c.requires.start.source; room = omega (arith, e, c.requires.start.room); stands = stands_opened (opener_call (name_of c.args.prim)) taken c.requires.start.stands few }, omega (arith, within)))
+    (omega (arith, few, c.decreases), (record { source = c.requires.start.source; room = omega (arith, e, c.requires.start.room); stands = stands_opened (opener_call (name_of c.args.prim) (operation_no_item c.args.prim)) taken c.requires.start.stands few }, omega (arith, within)))
 
 pub operation-returns-in_err-behind : goal.operation-returns-in_err-behind
 operation-returns-in_err-behind t c =
     let p = err_from_is_err_and c.from_residual-in_err-behind.result c.from_residual-in_err-behind.ensures.1 in
-    rw (p.1, p.2) (operation_no_operand c.args.prim c.requires.written c.requires.start.stands c.requires.head (ap (λ (x : ℕ × ℕ). x.0) c.arity-counts.ensures) refl (c.in_ok-call.ensures.taken (name_of c.args.prim) c.requires.head) c.in_err-behind.ensures.err)
+    rw (p.1, p.2) (operation_no_operand c.args.prim c.requires.written c.requires.start.stands c.requires.head (ap (λ (x : ℕ × ℕ). x.0) c.arity-counts.ensures) refl (c.in_ok-call.ensures.taken (name_of c.args.prim) (operation_no_item c.args.prim) c.requires.head) c.in_err-behind.ensures.err)
 
 pub operation-numbers-requires-clause-stands : goal.operation-numbers-requires-clause-stands
 operation-numbers-requires-clause-stands t c = (
   c.args.brackets + 1,
   whole_stands c.in_ok-behind.ensures.ok.passed.whole
-      (stands_opened (opener_call (name_of c.args.prim)) (c.in_ok-call.ensures.taken (name_of c.args.prim) c.requires.head) c.requires.start.stands c.in_ok-call.ensures.few),
+      (stands_opened (opener_call (name_of c.args.prim) (operation_no_item c.args.prim)) (c.in_ok-call.ensures.taken (name_of c.args.prim) (operation_no_item c.args.prim) c.requires.head) c.requires.start.stands c.in_ok-call.ensures.few),
 )
 
 pub operation-returns-in_err-parameters : goal.operation-returns-in_err-parameters
 operation-returns-in_err-parameters t c =
     let p = err_from_is_err_and c.from_residual-in_err-parameters.result c.from_residual-in_err-parameters.ensures.1 in
     rw (p.1, p.2) (operation_no_number c.args.prim c.requires.written c.requires.start.stands c.requires.head (ap (λ (x : ℕ × ℕ). x.0) c.arity-counts.ensures) (ap (λ (x : ℕ × ℕ). x.1) c.arity-counts.ensures)
-    (c.in_ok-call.ensures.taken (name_of c.args.prim) c.requires.head) c.in_ok-behind.ensures.ok c.new-read.ensures (c.in_err-parameters.ensures c.operands.new.names))
+    (c.in_ok-call.ensures.taken (name_of c.args.prim) (operation_no_item c.args.prim) c.requires.head) c.in_ok-behind.ensures.ok c.new-read.ensures (c.in_err-parameters.ensures c.args.from.now.major c.operands.new.names))
 
 pub operation-returns-in_err-take_mark : goal.operation-returns-in_err-take_mark
 operation-returns-in_err-take_mark t c =
     let p = err_from_is_err_and c.from_residual-in_err-take_mark.result c.from_residual-in_err-take_mark.ensures.1 in
     rw (p.1, p.2) (operation_not_closed c.args.prim c.requires.written c.requires.start.stands c.requires.head (ap (λ (x : ℕ × ℕ). x.0) c.arity-counts.ensures) (ap (λ (x : ℕ × ℕ). x.1) c.arity-counts.ensures)
-    (c.in_ok-call.ensures.taken (name_of c.args.prim) c.requires.head) c.in_ok-behind.ensures.ok c.new-read.ensures (c.in_ok-parameters.ensures c.operands.new.names) c.in_err-take_mark.ensures.taken)
+    (c.in_ok-call.ensures.taken (name_of c.args.prim) (operation_no_item c.args.prim) c.requires.head) c.in_ok-behind.ensures.ok c.new-read.ensures (c.in_ok-parameters.ensures c.args.from.now.major c.operands.new.names) c.in_err-take_mark.ensures.taken)
 
 pub operation-place_of_part-place-requires-clause-inside : goal.operation-place_of_part-place-requires-clause-inside
 operation-place_of_part-place-requires-clause-inside t c =
-    source_part c.args.from.now.text.now c.args.from.now.laid.now c.args.at c.in_ok-call.call c.requires.start.source (c.in_ok-call.ensures.taken (name_of c.args.prim) c.requires.head).here
+    source_part c.args.from.now.text.now c.args.from.now.laid.now c.args.at c.in_ok-call.call c.requires.start.source (c.in_ok-call.ensures.taken (name_of c.args.prim) (operation_no_item c.args.prim) c.requires.head).here
 
 pub operation-returns : goal.operation-returns
-operation-returns t c = rw c.place_of_part-place.ensures
+operation-returns t c = rw (c.place_of_part-place.ensures, c.in_version.ensures)
     (operation_read c.args.prim c.requires.written c.requires.start.stands c.requires.head (ap (λ (x : ℕ × ℕ). x.0) c.arity-counts.ensures) (ap (λ (x : ℕ × ℕ). x.1) c.arity-counts.ensures)
-    (c.in_ok-call.ensures.taken (name_of c.args.prim) c.requires.head) c.in_ok-behind.ensures.ok c.new-read.ensures (c.in_ok-parameters.ensures c.operands.new.names) c.in_ok-take_mark.ensures.taken)
+    (c.in_ok-call.ensures.taken (name_of c.args.prim) (operation_no_item c.args.prim) c.requires.head) c.in_ok-behind.ensures.ok c.new-read.ensures (c.in_ok-parameters.ensures c.args.from.now.major c.operands.new.names) c.in_ok-take_mark.ensures.taken)
 
 -- operands
 

@@ -24,7 +24,7 @@ decreases-suffixes l = 1000000000000 * (128 - l.brackets) + 300
 
 -- what is read from here on was read from the start
 abbrev pub invariant-suffixes-loop-next : goal.invariant-suffixes-loop-next
-invariant-suffixes-loop-next l = IsUnderway l.from.text.now l.from.laid.now l.initial.here l.initial.names l.initial.read l.here l.names l.read l.brackets l.passed
+invariant-suffixes-loop-next l = IsUnderway l.from.major l.from.text.now l.from.laid.now l.initial.here l.initial.names l.initial.read l.here l.names l.read l.brackets l.passed
 
 abbrev pub decreases-suffixes-loop-next : goal.decreases-suffixes-loop-next
 decreases-suffixes-loop-next l = 128 - l.passed

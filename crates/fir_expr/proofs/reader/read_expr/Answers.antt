@@ -16,4 +16,4 @@ pub returns-clause-longest : goal.returns-clause-longest
 returns-clause-longest c = answered_longest Expression (returns-clause-read c)
 
 pub returns-in_err-read-clause-longest : goal.returns-in_err-read-clause-longest
-returns-in_err-read-clause-longest c = reads_longest Expression c.args.reader.now.bytes.now c.args.reader.now.laid.now c.args.reader.now.at c.args.reader.now.names c.from_residual.result c.args.reader.now.at c.expr.new.names (returns-in_err-read-clause-read c)
+returns-in_err-read-clause-longest c = reads_longest c.args.reader.now.major Expression c.args.reader.now.bytes.now c.args.reader.now.laid.now c.args.reader.now.at c.args.reader.now.names c.from_residual.result c.args.reader.now.at c.expr.new.names (returns-in_err-read-clause-read c)

@@ -20,7 +20,7 @@ pub returns-in_err-new-clause-err : goal.returns-in_err-new-clause-err
 returns-in_err-new-clause-err t c = let p = err_from_is_err_and c.from_residual-in_err-new.result c.from_residual-in_err-new.ensures.1 in rw (p.1, p.2) no_memory
 
 pub lengths-requires : goal.lengths-requires
-lengths-requires t c = (omega (arith, c.in_ok-length.ensures.few), (c.requires.source, (whole_stands (c.in_ok-length.ensures.ok []).whole c.requires.stands, c.in_ok-length.ensures.counted)))
+lengths-requires t c = (omega (arith, c.in_ok-length.ensures.few), (c.requires.source, (whole_stands (c.in_ok-length.ensures.ok 3 []).whole c.requires.stands, c.in_ok-length.ensures.counted)))
 
 pub returns-in_err-read-clause-err : goal.returns-in_err-read-clause-err
 returns-in_err-read-clause-err t c =

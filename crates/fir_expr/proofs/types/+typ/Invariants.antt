@@ -21,7 +21,7 @@ abbrev pub decreases-named_type : goal.decreases-named_type
 decreases-named_type l = 8 * (128 - l.brackets) + 6
 
 abbrev pub invariant-fields-loop-fields : goal.invariant-fields-loop-fields
-invariant-fields-loop-fields l = FieldsSoFar l.fn.from.text.now l.fn.from.laid.now l.fn.first l.fn.names l.fields l.at l.names
+invariant-fields-loop-fields l = FieldsSoFar l.fn.from.major l.fn.from.text.now l.fn.from.laid.now l.fn.first l.fn.names l.fields l.at l.names
 
 abbrev pub decreases-fields-loop-fields : goal.decreases-fields-loop-fields
 decreases-fields-loop-fields l = length l.from.laid.now - l.at

@@ -5,4 +5,4 @@ use Rattle.name_laws.proofs.Spelled.{spelled_words, fields_are_words}
 use Rattle.name_laws.proofs.laws.names_of_a_text_are_words.Goals as goal
 
 pub returns : goal.returns
-returns c = λ text list circuit are spelled. (spelled_words text refl spelled.spelled (tokens_are_in text (tokens_in list) are) fields_are_words).1
+returns c = λ text list major main modules names are is. (spelled_words major text refl is.spelled (tokens_are_in text (tokens_in list) are) fields_are_words).1

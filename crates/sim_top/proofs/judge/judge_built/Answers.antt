@@ -1,37 +1,42 @@
-use Rattle.std.proofs.Common.{subst}
-use Rattle.sim_top.specs.Commands.{AreWorkers}
-use Rattle.sim_top.proofs.Judging.{checked, widths, divided_of, no_run_check, no_run_widths, no_run_cut}
+use Rattle.std.proofs.Common.{ap}
+use Rattle.std.proofs.lemmas.Result.{IfOk-weaker}
+use Rattle.sim_top.specs.Commands.{job}
+use Rattle.sim_top.specs.Texts.{reads_all}
+use Rattle.sim_top.proofs.Judging.{gives_here}
 use Rattle.sim_top.proofs.judge.judge_built.Goals as goal
 
-pub returns-in_ok-run-in-Run-clause-judges : goal.returns-in_ok-run-in-Run-clause-judges
-returns-in_ok-run-in-Run-clause-judges c = λ text b. rw c.in-Run.is (c.in_ok-run-in-Run.ensures.judges text b)
+pub returns-in-Run-clause-judges : goal.returns-in-Run-clause-judges
+returns-in-Run-clause-judges c = rw c.in-Run.is c.run.ensures.judges
 
-pub returns-in_ok-reply-in-Check-clause-judges : goal.returns-in_ok-reply-in-Check-clause-judges
-returns-in_ok-reply-in-Check-clause-judges c = λ text b.
-    rw c.in-Check.is (checked text _ c.args.built _ _ b c.in_ok-reply-in-Check.ensures.0 c.in_ok-reply-in-Check.ensures.1)
+pub returns-in-Run-clause-fits : goal.returns-in-Run-clause-fits
+returns-in-Run-clause-fits c = rw c.in-Run.is c.run.ensures.fits
 
-pub returns-in_ok-reply-in-Widths-clause-judges : goal.returns-in_ok-reply-in-Widths-clause-judges
-returns-in_ok-reply-in-Widths-clause-judges c = λ text b.
-    rw c.in-Widths.is (widths text _ c.args.built _ _ b c.in_ok-reply-in-Widths.ensures.0 c.in_ok-reply-in-Widths.ensures.1)
+pub returns-in-Vcd-clause-judges : goal.returns-in-Vcd-clause-judges
+returns-in-Vcd-clause-judges c = rw c.in-Vcd.is c.dump.ensures.judges
 
-pub divide-requires-clause-some : goal.divide-requires-clause-some
-divide-requires-clause-some c = (subst AreWorkers c.in-Cut.is c.requires.workers).0
+pub returns-in-Vcd-clause-fits : goal.returns-in-Vcd-clause-fits
+returns-in-Vcd-clause-fits c = rw c.in-Vcd.is c.dump.ensures.fits
 
-pub divide-requires-clause-most : goal.divide-requires-clause-most
-divide-requires-clause-most c = (subst AreWorkers c.in-Cut.is c.requires.workers).1
+pub answer-requires-clause-unrun : goal.answer-requires-clause-unrun
+answer-requires-clause-unrun c = ap (λ k. reads_all (job k)) c.in-Check.is
 
-pub returns-in_ok-reply-in-Cut-clause-judges : goal.returns-in_ok-reply-in-Cut-clause-judges
-returns-in_ok-reply-in-Cut-clause-judges c = λ text b.
-    rw c.in-Cut.is (divided_of _ text _ c.args.built _ _ b c.in_ok-reply-in-Cut.ensures.0 c.in_ok-reply-in-Cut.ensures.1)
+pub answer-requires-in-Widths-clause-unrun : goal.answer-requires-in-Widths-clause-unrun
+answer-requires-in-Widths-clause-unrun c = ap (λ k. reads_all (job k)) c.in-Widths.is
 
-pub returns-in_ok-run-in-Run-clause-fits : goal.returns-in_ok-run-in-Run-clause-fits
-returns-in_ok-run-in-Run-clause-fits c = rw c.in-Run.is c.in_ok-run-in-Run.ensures.fits
+pub answer-requires-in-Cut-clause-unrun : goal.answer-requires-in-Cut-clause-unrun
+answer-requires-in-Cut-clause-unrun c = ap (λ k. reads_all (job k)) c.in-Cut.is
 
-pub returns-in_ok-reply-in-Check-clause-fits : goal.returns-in_ok-reply-in-Check-clause-fits
-returns-in_ok-reply-in-Check-clause-fits c = no_run_check c.args.command _ c.in-Check.is
+pub answer-requires-in-Refine-clause-unrun : goal.answer-requires-in-Refine-clause-unrun
+answer-requires-in-Refine-clause-unrun c = ap (λ k. reads_all (job k)) c.in-Refine.is
 
-pub returns-in_ok-reply-in-Widths-clause-fits : goal.returns-in_ok-reply-in-Widths-clause-fits
-returns-in_ok-reply-in-Widths-clause-fits c = no_run_widths c.args.command _ c.in-Widths.is
+pub returns-in-Check-clause-judges : goal.returns-in-Check-clause-judges
+returns-in-Check-clause-judges c = IfOk-weaker _ _ _ (gives_here (job c.args.command) c.args.built c.args.stimulus.now) c.answer.ensures.judges
 
-pub returns-in_ok-reply-in-Cut-clause-fits : goal.returns-in_ok-reply-in-Cut-clause-fits
-returns-in_ok-reply-in-Cut-clause-fits c = no_run_cut c.args.command _ _ c.in-Cut.is
+pub returns-in-Widths-clause-judges : goal.returns-in-Widths-clause-judges
+returns-in-Widths-clause-judges c = IfOk-weaker _ _ _ (gives_here (job c.args.command) c.args.built c.args.stimulus.now) c.answer-in-Widths.ensures.judges
+
+pub returns-in-Cut-clause-judges : goal.returns-in-Cut-clause-judges
+returns-in-Cut-clause-judges c = IfOk-weaker _ _ _ (gives_here (job c.args.command) c.args.built c.args.stimulus.now) c.answer-in-Cut.ensures.judges
+
+pub returns-in-Refine-clause-judges : goal.returns-in-Refine-clause-judges
+returns-in-Refine-clause-judges c = IfOk-weaker _ _ _ (gives_here (job c.args.command) c.args.built c.args.stimulus.now) c.answer-in-Refine.ensures.judges

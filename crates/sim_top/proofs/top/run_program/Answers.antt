@@ -52,3 +52,27 @@ returns-in-Say-clause-untouched g c = λ four.
 
 pub run-requires-clause-runnable : goal.run-requires-clause-runnable
 run-requires-clause-runnable g c κs within = rw c.as_slice.ensures (rw c.in-Run.is (rw c.in-Run.is at c.in-Ok.ensures.ready))
+
+pub returns-in-Dump-clause-ends : goal.returns-in-Dump-clause-ends
+returns-in-Dump-clause-ends g c = λ texts before held written.
+    let gives = rw c.in-Dump.is at c.in-Ok.ensures.answers texts held in
+    let dumped = rw c.in-Dump.is at (rw c.as_slice-in-Dump.ensures at c.dump.ensures.dumped) in
+    let ran = dumped gives.names gives.numbered in
+    ends_run _ texts _ _ before _ _ (gives.dumped ran.0 ran.1) ran.2 written
+
+pub returns-in-Dump-clause-answered : goal.returns-in-Dump-clause-answered
+returns-in-Dump-clause-answered g c = λ texts held few.
+    let gives = rw c.in-Dump.is at c.in-Ok.ensures.answers texts held in
+    let dumped = rw c.in-Dump.is at (rw c.as_slice-in-Dump.ensures at c.dump.ensures.dumped) in
+    let ran = dumped gives.names gives.numbered in
+    run_answered _ texts _ _ _ _ (gives.dumped ran.0 ran.1) ran.2 few
+
+pub returns-in-Dump-clause-unheld : goal.returns-in-Dump-clause-unheld
+returns-in-Dump-clause-unheld g c = λ texts name held needs none.
+    let gives = rw c.in-Dump.is at c.in-Ok.ensures.answers texts held in
+    let dumped = rw c.in-Dump.is at (rw c.as_slice-in-Dump.ensures at c.dump.ensures.dumped) in
+    let ran = dumped gives.names gives.numbered in
+    absurd (unheld_unanswered _ texts _ name _ _ held needs none (gives.dumped ran.0 ran.1))
+
+pub dump-requires-clause-dumpable : goal.dump-requires-clause-dumpable
+dump-requires-clause-dumpable g c κs within = rw c.as_slice-in-Dump.ensures (rw c.in-Dump.is (rw c.in-Dump.is at c.in-Ok.ensures.ready))

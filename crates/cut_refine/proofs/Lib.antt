@@ -1,0 +1,17 @@
+pub mod Unique
+pub mod Sets
+pub mod Moves
+pub mod Bridge
+pub mod Ending
+pub mod Four
+pub mod Moving
+pub mod Steps
+pub mod Looking
+pub mod Tallies
+pub mod Lift
+pub mod Starting
+pub mod Closing
+pub mod Once
+pub mod Tables
+pub mod Bounds
+pub mod Whole

@@ -1,0 +1,12 @@
+use Rattle.std.proofs.Common.{arith}
+use Rattle.std.proofs.lemmas.Grind.{common_steps}
+use Rattle.fir_types.specs.declared.fir_type.FirType.{the_lemmas as type_lemmas}
+use Rattle.fir_tree.specs.declared.expr.Expr.{the_lemmas as expr_lemmas}
+use Rattle.fir_tree.specs.declared.stmt.Stmt.{the_lemmas as stmt_lemmas}
+use Rattle.definition_examples.proofs.clocks.flipped_clocks_are_driven_from_the_left.Goals as goal
+
+pub returns-clause-right : goal.returns-clause-right
+returns-clause-right c = grind (arith, common_steps, stmt_lemmas, expr_lemmas, type_lemmas)
+
+pub returns-clause-left : goal.returns-clause-left
+returns-clause-left c = grind (arith, common_steps, stmt_lemmas, expr_lemmas, type_lemmas)

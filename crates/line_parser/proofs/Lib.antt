@@ -1,0 +1,5 @@
+pub mod Steps
+pub mod Joins
+pub mod Entering
+pub mod Keys
+pub mod Loops

@@ -1,0 +1,4 @@
+pub mod Branching
+pub mod Expected
+pub mod Keys
+pub mod Taking

@@ -1,0 +1,10 @@
+mod Sums
+mod Owning
+mod Calling
+mod Same
+mod Standing
+mod Running
+mod Counting
+mod Paths
+mod Measured
+mod Indexed

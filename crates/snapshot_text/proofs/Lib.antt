@@ -1,0 +1,17 @@
+pub mod Cutting
+pub mod Numbers
+pub mod Texts
+pub mod Ordering
+pub mod Lining
+pub mod Judging
+pub mod Heading
+pub mod Going
+pub mod Captured
+pub mod Keeping
+pub mod Faultless
+pub mod Stepping
+pub mod Printed
+pub mod Held
+pub mod Named
+pub mod Naming
+pub mod Ranging
