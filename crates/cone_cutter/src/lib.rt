@@ -5,11 +5,14 @@
 
 mod buckets;
 mod cutting;
+mod holding;
 pub mod laws;
 mod loads;
+mod marking;
 mod needing;
 mod placing;
 mod reading;
+mod rows;
 mod sinks;
 mod sizing;
 mod walking;
