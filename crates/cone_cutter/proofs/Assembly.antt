@@ -216,8 +216,12 @@ module _ (net : Net) (watch sequence : List ℕ) (reads rows : List (List ℕ)) 
   was_placed : (k : ℕ) → Contains (placed_in p h.placings) k → k < length (sinks net watch)
   was_placed k c =
       let s = placed_from p h.placings k c in
-      omega (arith, same_count, h.are_placed.only k (subst (Contains (placed h.placings)) (get_or-map (λ (q : Placing). q.sink) h.placings s.at s.it 0 (slice_get_within h.placings s.at s.it s.there) ∙ (ap (λ (q : Placing). q.sink) (get_or_from_slice_get h.placings s.at s.it s.it s.there) ∙ s.is_sink))
-      (Contains-get_or (placed h.placings) s.at 0 (omega (arith, slice_get_within h.placings s.at s.it s.there, length-map h.placings (λ (q : Placing). q.sink))))))
+      omega (
+        arith,
+        same_count,
+        h.are_placed.only k (subst (Contains (placed h.placings)) (get_or-map (λ (q : Placing). q.sink) h.placings s.at s.it 0 (slice_get_within h.placings s.at s.it s.there) ∙ (ap (λ (q : Placing). q.sink) (get_or_from_slice_get h.placings s.at s.it s.it s.there) ∙ s.is_sink))
+            (Contains-get_or (placed h.placings) s.at 0 (omega (arith, slice_get_within h.placings s.at s.it s.there, length-map h.placings (λ (q : Placing). q.sink))))),
+      )
 
   sinks_to : (k : ℕ) → Contains (placed_in p h.placings) k → Contains (places_of it.owners.items p) k
   sinks_to k c = place_to it.owners.items p k (omega (arith, was_placed k c, long)) (here_to k c)
@@ -353,7 +357,8 @@ held_by_load reads rows workers sizes order placings load it long counted ranked
   sinks = owners_long;
   leaves = ap length masks ∙ h.room.masks;
   owners = own;
-  held = λ p x lt inside.
-      (λ e. (h.held p x lt inside).0 (ap (λ s. holds s p x) (sym masks) ∙ e),
-      λ n. ap (λ s. holds s p x) masks ∙ (h.held p x lt inside).1 n);
+  held = λ p x lt inside. (
+    λ e. (h.held p x lt inside).0 (ap (λ s. holds s p x) (sym masks) ∙ e),
+    λ n. ap (λ s. holds s p x) masks ∙ (h.held p x lt inside).1 n,
+  );
 }

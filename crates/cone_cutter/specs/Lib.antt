@@ -7,3 +7,4 @@ pub mod Rows
 pub mod Walks
 pub mod Loads
 pub mod Marks
+pub mod Tallies

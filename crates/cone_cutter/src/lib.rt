@@ -15,6 +15,7 @@ mod reading;
 mod rows;
 mod sinks;
 mod sizing;
+mod tallies;
 mod walking;
 
 pub use cutting::{cut, parts_of};
