@@ -11,8 +11,7 @@ use Rattle.std.proofs.lemmas.List.Sums.{length-filter, count_by-le-length}
 use Rattle.std.proofs.lemmas.Nat.Bits.{bit_at_or, bit_at-lt, bit_at-zero}
 use Rattle.cone_cutter.specs.Cuts.{Lists, Counts, NeededBy}
 use Rattle.cone_cutter.specs.Rows.{AreBelow, row_at, Met, root, next, ConeAt}
-use Rattle.cone_cutter.specs.Walks.{Walked}
-use Rattle.cone_cutter.specs.Loads.{has_bit, holds, shared_by, Gets}
+use Rattle.cone_cutter.specs.Loads.{has_bit, holds, shared_by}
 use Rattle.cone_cutter.specs.Marks.{IsRowOrder, AreInOrder, StandsOn, Spreads, HandsOn, AreRoots, AreSizes}
 use Rattle.cone_cutter.proofs.Lists.{set_here, set_there, stands, stood, filter_from, filter_to, pairs_filter, fits_below, in_range, to_range}
 

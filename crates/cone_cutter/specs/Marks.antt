@@ -1,6 +1,5 @@
 -- Rows in an order, and marks of cones: a word of marks stands for each leaf, and each mark for a sink.
-use Rattle.std.specs.Prelude.{◌≡◌, ◌⊎◌, ◌↔◌, ℕ, ◌+◌, ◌*◌, ◌<◌, ◌≤◌, true, IsTrue, List, [], ◌∷◌, length, slice_get, slice_index, Some, Contains}
-use Rattle.std.specs.Int.{bit_at}
+use Rattle.std.specs.Prelude.{◌≡◌, ◌⊎◌, ◌↔◌, ℕ, ◌<◌, ◌≤◌, true, IsTrue, List, length, slice_get, slice_index, Some, Contains}
 use Rattle.cone_cutter.specs.declared.placing.Placing.{Placing}
 use Rattle.cone_cutter.specs.declared.holding.Holding.{Holding}
 use Rattle.cone_cutter.specs.Cuts.{NeededBy, ArePlaced, placed_in, Counts}

@@ -1,6 +1,5 @@
-use Rattle.std.proofs.Common.{◌≡◌, ◌<◌, length, sym, subst, ap, ◌∙◌, arith}
+use Rattle.std.proofs.Common.{◌<◌, length, sym, subst, ap, ◌∙◌, arith}
 use Rattle.std.specs.List.{All, range_with_len}
-use Rattle.ground_net.specs.Cones.{sinks}
 use Rattle.cone_cutter.specs.Cuts.{Lists, Counts, NeededBy}
 use Rattle.cone_cutter.specs.Rows.{ConeAt}
 use Rattle.cone_cutter.specs.Loads.{parts_by}

@@ -1,4 +1,4 @@
-use Rattle.std.proofs.Common.{◌≡◌, ◌≤◌, Bool, true, false, cond, ℕ, sym, subst, ap, arith, eq-eqb, w64}
+use Rattle.std.proofs.Common.{◌≡◌, true, cond, ℕ, sym, subst, ap, arith, eq-eqb, w64}
 use Rattle.std.specs.Int.{trailing_zeros}
 use Rattle.std.proofs.lemmas.Nat.Bits.{bit_at-trailing_zeros}
 use Rattle.cone_cutter.specs.Loads.{has_bit}

@@ -1,6 +1,5 @@
-use Rattle.std.proofs.Common.{◌≡◌, ℕ, ◌+◌, ◌-◌, ◌<◌, length, slice_index, refl, sym, subst, ◌∙◌, arith}
+use Rattle.std.proofs.Common.{◌≡◌, ◌+◌, ◌-◌, ◌<◌, length, slice_index, refl, sym, subst, ◌∙◌, arith}
 use Rattle.std.specs.List.{All}
-use Rattle.cone_cutter.specs.Rows.{row_at}
 use Rattle.cone_cutter.specs.Marks.{Spreads, HandsOn}
 use Rattle.cone_cutter.proofs.Lists.{stands}
 use Rattle.cone_cutter.proofs.Walks.{row_below, row_is}

@@ -1,4 +1,3 @@
-use Rattle.std.proofs.Common.{◌≡◌, length}
 use Rattle.cone_cutter.proofs.Marks.{StandFor}
 use Rattle.cone_cutter.proofs.marking.mark_needs.Given as goal
 
