@@ -17,10 +17,12 @@ use Rattle.ground_net.specs.Cones.{Sink, sinks, needs, InCone, needed as by_need
 use Rattle.ground_net.specs.Reads.{IsAssigned, direct_reads, IsOrder}
 use Rattle.cone_cutter.specs.declared.placing.Placing.{Placing}
 use Rattle.cone_cutter.specs.declared.loads.Load.{Load}
+use Rattle.cone_cutter.specs.declared.holding.Holding.{Holding}
 use Rattle.cone_cutter.specs.Cuts.{Counts, NeededBy, placed, placed_in, GoesFirst, IsLeast, ArePlaced, InConeOf, IsPart, IsCut}
 use Rattle.cone_cutter.specs.Rows.{is_assigned_role, is_assigned_leaf, is_assignment, assignments_of, read_rows, need_rows, row_at, places_of, AreBelow, Met, root, next, ConeAt}
 use Rattle.cone_cutter.specs.Walks.{AreRanked}
 use Rattle.cone_cutter.specs.Loads.{holds, IsLoad, part_by, parts_by}
+use Rattle.cone_cutter.specs.Marks.{IsRowOrder, AreInOrder, AreSizes, IsHeld}
 use Rattle.cone_cutter.proofs.Lists.{none_in, first_in, later_in, cons_cases, stands, stood, filter_from, filter_to, pairs_filter, counts_same, in_range}
 use Rattle.cone_cutter.proofs.KeyPlaces.{place_from, place_to}
 
@@ -197,30 +199,35 @@ placing_of (q ∷ qs) k c = ⊎_elim (λ e. (0, q, refl, e)) (λ r. let h = plac
 
 -- partitions
 
-module _ (net : Net) (watch sequence : List ℕ) (reads rows : List (List ℕ)) (workers : ℕ) (placings : List Placing) (load : Load) (owners : List ℕ)
+module _ (net : Net) (watch sequence : List ℕ) (reads rows : List (List ℕ)) (workers : ℕ) (it : Holding)
     (er : reads ≡ read_rows net) (en : rows ≡ need_rows net (sinks net watch)) (order : IsOrder net sequence)
-    (are : ArePlaced (ConeAt reads rows) (length (sinks net watch)) workers placings) (h : IsLoad reads rows workers placings load)
-    (long : length owners ≡ length (sinks net watch)) (own : (i : ℕ) (it : Placing) → slice_get placings i ≡ Some it → slice_index owners it.sink ≡ it.part)
-    (p : ℕ) (lt : p < workers) where
-  here_from : (k : ℕ) → k < length (sinks net watch) → slice_index owners k ≡ p → Contains (placed_in p placings) k
+    (h : IsHeld reads rows workers it) (long : length it.owners.items ≡ length (sinks net watch)) (p : ℕ) (lt : p < workers) where
+  same_count : length rows ≡ length (sinks net watch)
+  same_count = sym h.sinks ∙ long
+
+  here_from : (k : ℕ) → k < length (sinks net watch) → slice_index it.owners.items k ≡ p → Contains (placed_in p h.placings) k
   here_from k inside e =
-      let q = placing_of placings k (are.all k inside) in
-      subst (Contains (placed_in p placings)) q.3 (placed_to p placings q.0 q.1 q.2 (sym (own q.0 q.1 q.2) ∙ (ap (slice_index owners) q.3 ∙ e)))
+      let q = placing_of h.placings k (h.are_placed.all k (omega (arith, same_count))) in
+      subst (Contains (placed_in p h.placings)) q.3 (placed_to p h.placings q.0 q.1 q.2 (sym (h.owners q.0 q.1 q.2) ∙ (ap (slice_index it.owners.items) q.3 ∙ e)))
 
-  here_to : (k : ℕ) → Contains (placed_in p placings) k → slice_index owners k ≡ p
-  here_to k c = let s = placed_from p placings k c in ap (slice_index owners) (sym s.is_sink) ∙ (own s.at s.it s.there ∙ s.is_part)
+  here_to : (k : ℕ) → Contains (placed_in p h.placings) k → slice_index it.owners.items k ≡ p
+  here_to k c = let s = placed_from p h.placings k c in ap (slice_index it.owners.items) (sym s.is_sink) ∙ (h.owners s.at s.it s.there ∙ s.is_part)
 
-  was_placed : (k : ℕ) → Contains (placed_in p placings) k → k < length (sinks net watch)
+  was_placed : (k : ℕ) → Contains (placed_in p h.placings) k → k < length (sinks net watch)
   was_placed k c =
-      let s = placed_from p placings k c in
-      are.only k (subst (Contains (placed placings)) (get_or-map (λ (q : Placing). q.sink) placings s.at s.it 0 (slice_get_within placings s.at s.it s.there) ∙ (ap (λ (q : Placing). q.sink) (get_or_from_slice_get placings s.at s.it s.it s.there) ∙ s.is_sink))
-      (Contains-get_or (placed placings) s.at 0 (omega (arith, slice_get_within placings s.at s.it s.there, length-map placings (λ (q : Placing). q.sink)))))
+      let s = placed_from p h.placings k c in
+      omega (
+        arith,
+        same_count,
+        h.are_placed.only k (subst (Contains (placed h.placings)) (get_or-map (λ (q : Placing). q.sink) h.placings s.at s.it 0 (slice_get_within h.placings s.at s.it s.there) ∙ (ap (λ (q : Placing). q.sink) (get_or_from_slice_get h.placings s.at s.it s.it s.there) ∙ s.is_sink))
+            (Contains-get_or (placed h.placings) s.at 0 (omega (arith, slice_get_within h.placings s.at s.it s.there, length-map h.placings (λ (q : Placing). q.sink))))),
+      )
 
-  sinks_to : (k : ℕ) → Contains (placed_in p placings) k → Contains (places_of owners p) k
-  sinks_to k c = place_to owners p k (omega (arith, was_placed k c, long)) (here_to k c)
+  sinks_to : (k : ℕ) → Contains (placed_in p h.placings) k → Contains (places_of it.owners.items p) k
+  sinks_to k c = place_to it.owners.items p k (omega (arith, was_placed k c, long)) (here_to k c)
 
-  sinks_from : (k : ℕ) → Contains (places_of owners p) k → Contains (placed_in p placings) k
-  sinks_from k c = let f = place_from owners p k c in here_from k (omega (arith, f.0, long)) f.1
+  sinks_from : (k : ℕ) → Contains (places_of it.owners.items p) k → Contains (placed_in p h.placings) k
+  sinks_from k c = let f = place_from it.owners.items p k c in here_from k (omega (arith, f.0, long)) f.1
 
   in_sequence : (x : ℕ) → Contains sequence x → x < length reads
   in_sequence x c =
@@ -228,31 +235,31 @@ module _ (net : Net) (watch sequence : List ℕ) (reads rows : List (List ℕ)) 
       let a = subst (IsAssigned net.leaves) at.2 (order.only at.0 at.1) in
       omega (arith, assigned_within net.leaves x a, ap length er, read_rows_long net)
 
-  needed_from : (x : ℕ) → Contains sequence x → holds load.masks.items p x ≡ true → NeededBy (InConeOf net watch) (places_of owners p) x
+  needed_from : (x : ℕ) → Contains sequence x → holds it.masks.items p x ≡ true → NeededBy (InConeOf net watch) (places_of it.owners.items p) x
   needed_from x c e =
       let n = (h.held p x lt (in_sequence x c)).0 e in
       record { sink = n.sink; there = sinks_to n.sink n.there; inside = cone_from net watch reads rows er en n.sink x n.inside }
 
-  needed_to : (x : ℕ) → x < length reads → NeededBy (InConeOf net watch) (places_of owners p) x → holds load.masks.items p x ≡ true
+  needed_to : (x : ℕ) → x < length reads → NeededBy (InConeOf net watch) (places_of it.owners.items p) x → holds it.masks.items p x ≡ true
   needed_to x inside n = (h.held p x lt inside).1 (record { sink = n.sink; there = sinks_from n.sink n.there; inside = cone_to net watch reads rows er en n.sink x n.inside })
 
-  all_there : (x : ℕ) → NeededBy (InConeOf net watch) (places_of owners p) x → Contains sequence x
+  all_there : (x : ℕ) → NeededBy (InConeOf net watch) (places_of it.owners.items p) x → Contains sequence x
   all_there x n = let at = order.all x (cone_assigned net n.inside.sink x n.inside.inside) in stands sequence x at.0 at.1 at.2
 
-  pub is_part : IsPart net watch sequence (placed_in p placings) (part_by owners load.masks.items sequence p)
+  pub is_part : IsPart net watch sequence (placed_in p h.placings) (part_by it.owners.items it.masks.items sequence p)
   is_part = record {
     of_sinks = record {
-      test = λ k. slice_index owners k == p;
-      tests = λ k c. (λ e. here_from k (in_range (length (sinks net watch)) k c) (eqb-true (slice_index owners k) p e), λ there. eq-eqb (slice_index owners k) p (here_to k there));
-      same = ap (λ n. filter (λ k. slice_index owners k == p) (range_with_len 0 n)) long;
+      test = λ k. slice_index it.owners.items k == p;
+      tests = λ k c. (λ e. here_from k (in_range (length (sinks net watch)) k c) (eqb-true (slice_index it.owners.items k) p e), λ there. eq-eqb (slice_index it.owners.items k) p (here_to k there));
+      same = ap (λ n. filter (λ k. slice_index it.owners.items k == p) (range_with_len 0 n)) long;
     };
     exactly = record {
-      only = λ x c. let f = filter_from (holds load.masks.items p) sequence x c in needed_from x f.0 f.1;
-      all = λ x n. filter_to (holds load.masks.items p) sequence x (all_there x n) (needed_to x (in_sequence x (all_there x n)) n);
-      once = pairs_filter (λ a b. a ≢ b) (holds load.masks.items p) sequence order.once;
+      only = λ x c. let f = filter_from (holds it.masks.items p) sequence x c in needed_from x f.0 f.1;
+      all = λ x n. filter_to (holds it.masks.items p) sequence x (all_there x n) (needed_to x (in_sequence x (all_there x n)) n);
+      once = pairs_filter (λ a b. a ≢ b) (holds it.masks.items p) sequence order.once;
     };
     in_order = record {
-      test = holds load.masks.items p;
+      test = holds it.masks.items p;
       tests = λ x c. (needed_from x c, needed_to x (in_sequence x c));
       same = refl;
     };
@@ -266,27 +273,47 @@ part_at owners masks sequence workers p part e =
     let z : 0 + p ≡ p = omega arith in
     (lt, sym (get_or-map-range_with_len f 0 workers p p part lt z) ∙ get_or_from_slice_get (parts_by owners masks sequence workers) p part part e)
 
-pub is_cut : (ordered : Ordered) (watch : List ℕ) (workers : ℕ) (it : Cut) (reads rows : List (List ℕ)) (sizes order : List ℕ) (placings : List Placing) (load : Load) (owners : List ℕ)
-    → reads ≡ read_rows ordered.net → rows ≡ need_rows ordered.net (sinks ordered.net watch) → IsOrder ordered.net ordered.sequence
-    → length sizes ≡ length rows → ((k : ℕ) → k < length rows → Counts (ConeAt reads rows k) (slice_index sizes k)) → AreRanked sizes 0 order → placed placings ≡ order → IsLoad reads rows workers placings load
-    → length owners ≡ length rows → ((i : ℕ) (q : Placing) → slice_get placings i ≡ Some q → slice_index owners q.sink ≡ q.part)
-    → it.parts ≡ parts_by owners load.masks.items ordered.sequence workers → Counts (NeededBy (ConeAt reads rows) (range_with_len 0 (length rows))) it.needed → IsCut ordered watch workers it
-is_cut ordered watch workers it reads rows sizes order placings load owners er en in_order long counted ranked same h own_long own parts needed =
+pub is_cut : (ordered : Ordered) (watch : List ℕ) (workers : ℕ) (it : Cut) (reads rows : List (List ℕ)) (holding : Holding)
+    → reads ≡ read_rows ordered.net → rows ≡ need_rows ordered.net (sinks ordered.net watch) → IsOrder ordered.net ordered.sequence → IsHeld reads rows workers holding
+    → it.parts ≡ parts_by holding.owners.items holding.masks.items ordered.sequence workers → Counts (NeededBy (ConeAt reads rows) (range_with_len 0 (length rows))) it.needed → IsCut ordered watch workers it
+is_cut ordered watch workers it reads rows holding er en in_order h parts needed =
     let net = ordered.net in
     let count : length rows ≡ length (sinks ordered.net watch) = ap length en ∙ length-map (sinks ordered.net watch) (λ s. assignments_of ordered.net (needs ordered.net s)) in
-    let are = are_placed reads rows (length (sinks net watch)) workers sizes order placings load (long ∙ count) (λ k lt. counted k (omega (arith, count))) ranked same h in
     let to = cone_from net watch reads rows er en in
     let from = cone_to net watch reads rows er en in
     record {
-      placings = placings;
-      are_placed = placed_lift (ConeAt reads rows) (InConeOf net watch) to from (length (sinks net watch)) workers placings are;
-      count = ap length parts ∙ length-map-range_with_len (part_by owners load.masks.items ordered.sequence) 0 workers;
+      placings = h.placings;
+      are_placed = subst (λ n. ArePlaced (InConeOf ordered.net watch) n workers h.placings) count
+          (placed_lift (ConeAt reads rows) (InConeOf net watch) to from (length rows) workers h.placings h.are_placed);
+      count = ap length parts ∙ length-map-range_with_len (part_by holding.owners.items holding.masks.items ordered.sequence) 0 workers;
       each = λ p part e.
-          let at = part_at owners load.masks.items ordered.sequence workers p part (ap (λ s. slice_get s p) (sym parts) ∙ e) in
-          subst (IsPart net watch ordered.sequence (placed_in p placings)) at.1 (is_part net watch ordered.sequence reads rows workers placings load owners er en in_order are h (own_long ∙ count) own p at.0);
+          let at = part_at holding.owners.items holding.masks.items ordered.sequence workers p part (ap (λ s. slice_get s p) (sym parts) ∙ e) in
+          subst (IsPart net watch ordered.sequence (placed_in p h.placings)) at.1 (is_part net watch ordered.sequence reads rows workers holding er en in_order h (h.sinks ∙ count) p at.0);
       all_needed = subst (λ n. Counts (NeededBy (InConeOf ordered.net watch) (range_with_len 0 n)) it.needed) count
           (counts_lift (ConeAt reads rows) (InConeOf net watch) to from (range_with_len 0 (length rows)) it.needed needed);
     }
+
+-- rows in an order
+
+module _ (net : Net) (watch sequence : List ℕ) (reads rows : List (List ℕ)) (er : reads ≡ read_rows net) (en : rows ≡ need_rows net (sinks net watch)) (o : IsOrder net sequence) where
+  assigned_at : (k : ℕ) → k < length sequence → slice_index sequence k < length net.leaves
+  assigned_at k lt = assigned_within net.leaves (slice_index sequence k) (o.only k lt)
+
+  pub rows_in_order : IsRowOrder reads sequence
+  rows_in_order = record {
+    within = λ x c. let at = stood sequence x c in omega (arith, assigned_at at.0 at.1, at.2, ap length er, read_rows_long net);
+    once = o.once;
+    after = λ k w lt c.
+        let x = slice_index sequence k in
+        let f = filter_from (is_assignment net.leaves) (direct_reads net x) w (subst (λ r. Contains r w) (read_row net watch reads rows er en x (assigned_at k lt)) c) in
+        o.after k w lt f.0 (assigned_is net.leaves w f.1);
+  }
+
+  pub needs_in_order : AreInOrder rows sequence
+  needs_in_order k x c =
+      let i = cone_from net watch reads rows er en k x (root c) in
+      let at = o.all x (cone_assigned net i.sink x i.inside) in
+      stands sequence x at.0 at.1 at.2
 
 -- one more partition
 
@@ -318,3 +345,20 @@ need_rows_long net all = length-map all (λ s. assignments_of net (needs net s))
 
 pub placed_long : (placings : List Placing) → length (placed placings) ≡ length placings
 placed_long placings = length-map placings (λ (q : Placing). q.sink)
+
+-- what the placings leave
+
+pub held_by_load : (reads rows : List (List ℕ)) (workers : ℕ) (sizes order : List ℕ) (placings : List Placing) (load : Load) (it : Holding) → length sizes ≡ length rows → AreSizes reads rows sizes → AreRanked sizes 0 order
+    → placed placings ≡ order → IsLoad reads rows workers placings load → it.masks.items ≡ load.masks.items → length it.owners.items ≡ length rows
+    → ((i : ℕ) (q : Placing) → slice_get placings i ≡ Some q → slice_index it.owners.items q.sink ≡ q.part) → IsHeld reads rows workers it
+held_by_load reads rows workers sizes order placings load it long counted ranked same h masks owners_long own = record {
+  placings = placings;
+  are_placed = are_placed reads rows (length rows) workers sizes order placings load long (λ k lt. counted.sized k (omega (arith, long))) ranked same h;
+  sinks = owners_long;
+  leaves = ap length masks ∙ h.room.masks;
+  owners = own;
+  held = λ p x lt inside. (
+    λ e. (h.held p x lt inside).0 (ap (λ s. holds s p x) (sym masks) ∙ e),
+    λ n. ap (λ s. holds s p x) masks ∙ (h.held p x lt inside).1 n,
+  );
+}

@@ -4,6 +4,9 @@ pub mod KeyPlaces
 pub mod SinkOrder
 pub mod Ranks
 pub mod LoadSteps
+pub mod TallySteps
+pub mod Marks
+pub mod OneWorker
 pub mod Assembly
 pub mod Splitting
 pub mod SinkCount

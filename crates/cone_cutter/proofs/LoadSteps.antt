@@ -271,25 +271,25 @@ smaller_without a b p le lacks has = ⊎_elim (λ lt. lt) (λ ge. let e : a ≡ 
     differ e = cc
 
 -- What is counted and what is left to count: the bits of the mask.
-abbrev pub CountsBits : List ℕ → ℕ → List ℕ → ℕ → Type 0
-CountsBits old mask now rest = (p : ℕ) → p < length now → slice_index now p + cond {A = ℕ} (has_bit rest p) 1 0 ≡ slice_index old p + cond {A = ℕ} (has_bit mask p) 1 0
+abbrev pub CountsBits : ℕ → List ℕ → ℕ → List ℕ → ℕ → Type 0
+CountsBits weight old mask now rest = (p : ℕ) → p < length now → slice_index now p + cond {A = ℕ} (has_bit rest p) weight 0 ≡ slice_index old p + cond {A = ℕ} (has_bit mask p) weight 0
 
-pub bit_counted : (old : List ℕ) (mask : ℕ) (now : List ℕ) (rest part left : ℕ) → CountsBits old mask now rest → part < length now → length now ≤ 64 → has_bit rest part ≡ true → has_bit left part ≡ false
-    → ((p : ℕ) → p < 64 → p ≢ part → has_bit left p ≡ has_bit rest p) → CountsBits old mask (slice_set now part (slice_index now part + 1)) left
-bit_counted old mask now rest part left h lt few has lacks others p in_now =
-    let long = length-set now part (slice_index now part + 1) in
+pub bit_counted : (weight : ℕ) (old : List ℕ) (mask : ℕ) (now : List ℕ) (rest part left : ℕ) → CountsBits weight old mask now rest → part < length now → length now ≤ 64 → has_bit rest part ≡ true → has_bit left part ≡ false
+    → ((p : ℕ) → p < 64 → p ≢ part → has_bit left p ≡ has_bit rest p) → CountsBits weight old mask (slice_set now part (slice_index now part + weight)) left
+bit_counted weight old mask now rest part left h lt few has lacks others p in_now =
+    let long = length-set now part (slice_index now part + weight) in
     let was = h p (omega (arith, in_now, long)) in
     ⊎_elim
-    (λ e. let here = set_here now part (slice_index now part + 1) p lt e in
-    let one : cond {A = ℕ} (has_bit rest p) 1 0 ≡ 1 = ap (λ b. cond {A = ℕ} b 1 0) (ap (has_bit rest) e ∙ has) in
-    let none : cond {A = ℕ} (has_bit left p) 1 0 ≡ 0 = ap (λ b. cond {A = ℕ} b 1 0) (ap (has_bit left) e ∙ lacks) in
+    (λ e. let here = set_here now part (slice_index now part + weight) p lt e in
+    let one : cond {A = ℕ} (has_bit rest p) weight 0 ≡ weight = ap (λ b. cond {A = ℕ} b weight 0) (ap (has_bit rest) e ∙ has) in
+    let none : cond {A = ℕ} (has_bit left p) weight 0 ≡ 0 = ap (λ b. cond {A = ℕ} b weight 0) (ap (has_bit left) e ∙ lacks) in
     omega (arith, here, one, none, was, ap (slice_index now) e))
-    (λ n. let there = set_there now part (slice_index now part + 1) p n in
-    let same : cond {A = ℕ} (has_bit left p) 1 0 ≡ cond {A = ℕ} (has_bit rest p) 1 0 = ap (λ b. cond {A = ℕ} b 1 0) (others p (omega (arith, in_now, long)) n) in
+    (λ n. let there = set_there now part (slice_index now part + weight) p n in
+    let same : cond {A = ℕ} (has_bit left p) weight 0 ≡ cond {A = ℕ} (has_bit rest p) weight 0 = ap (λ b. cond {A = ℕ} b weight 0) (others p (omega (arith, in_now, long)) n) in
     omega (arith, there, same, was)) (cases_eq p part)
 
-pub bit_past : (old : List ℕ) (mask : ℕ) (now : List ℕ) (rest part left : ℕ) → CountsBits old mask now rest → length now ≤ part → length now ≤ 64
-    → ((p : ℕ) → p < 64 → p ≢ part → has_bit left p ≡ has_bit rest p) → CountsBits old mask now left
-bit_past old mask now rest part left h past few others p in_now =
-    let same : cond {A = ℕ} (has_bit left p) 1 0 ≡ cond {A = ℕ} (has_bit rest p) 1 0 = ap (λ b. cond {A = ℕ} b 1 0) (others p (omega arith) (λ e. omega arith)) in
+pub bit_past : (weight : ℕ) (old : List ℕ) (mask : ℕ) (now : List ℕ) (rest part left : ℕ) → CountsBits weight old mask now rest → length now ≤ part → length now ≤ 64
+    → ((p : ℕ) → p < 64 → p ≢ part → has_bit left p ≡ has_bit rest p) → CountsBits weight old mask now left
+bit_past weight old mask now rest part left h past few others p in_now =
+    let same : cond {A = ℕ} (has_bit left p) weight 0 ≡ cond {A = ℕ} (has_bit rest p) weight 0 = ap (λ b. cond {A = ℕ} b weight 0) (others p (omega arith) (λ e. omega arith)) in
     omega (arith, same, h p in_now)

@@ -1,15 +1,14 @@
 -- Walks of cones.
 use Rattle.std.proofs.Common.{◌≡◌, ◌≢◌, ℕ, suc, ◌+◌, ◌<◌, ◌≤◌, ◌==◌, Bool, true, false, not, cond, List, [], ◌∷◌, ◌++◌, length, slice_index, slice_set, refl, sym, subst, ap, ◌∙◌, arith, ⊎_elim, inl, inr, append_assoc, get_or}
-use Rattle.std.specs.List.{Contains, All, range_with_len}
+use Rattle.std.specs.List.{Contains, All}
 use Rattle.std.proofs.lemmas.Bool.{cases_eq, cases_lt, eq-eqb, eqb-true}
 use Rattle.std.proofs.lemmas.List.{length-set, length_push, get_or_append_left, get_or_default, append-nil}
 use Rattle.std.proofs.lemmas.List.Elements.{Contains-append_left, Contains-append_right, Contains-append_cases, Contains-push, Contains-push_cases}
 use Rattle.std.proofs.lemmas.List.Sums.{sum_by-set, sum_by-cons}
 use Rattle.std.proofs.Math.ListN.{length-append}
-use Rattle.cone_cutter.specs.Cuts.{Counts, NeededBy}
-use Rattle.cone_cutter.specs.Rows.{AreBelow, row_at, Met, root, next, ConeAt}
-use Rattle.cone_cutter.specs.Walks.{unstamped, Meets, Walking, Walked, AreSized}
-use Rattle.cone_cutter.proofs.Lists.{set_here, set_there, push_old, push_new, none_in, once_push, pairs_append, in_range, to_range, stands, stood}
+use Rattle.cone_cutter.specs.Rows.{AreBelow, row_at, Met, root, next}
+use Rattle.cone_cutter.specs.Walks.{unstamped, Meets, Walking, Walked}
+use Rattle.cone_cutter.proofs.Lists.{set_here, set_there, none_in, once_push, pairs_append, stands, stood}
 
 -- stamps
 
@@ -171,43 +170,3 @@ row_below reads n x row h lt e = subst (λ r. All (λ v. v < n) r) (sym e) (h x 
 
 pub row_is : (reads : List (List ℕ)) (x : ℕ) (row : List ℕ) → x < length reads → row ≡ get_or reads x row → row ≡ row_at reads x
 row_is reads x row lt e = e ∙ get_or_default reads x row [] lt
-
--- sizes
-
-pub sized_none : (reads needed : List (List ℕ)) (stamps : List ℕ) → length stamps ≡ length reads → ((v : ℕ) → slice_index stamps v ≡ 0) → AreSized reads needed 0 stamps []
-sized_none reads needed stamps long zero_all = record {
-  long = long;
-  counted = refl;
-  sized = λ k lt. absurd (omega arith);
-  few = λ k lt. absurd (omega arith);
-  early = λ v. omega (arith, zero_all v);
-  met = λ v h. absurd (none_in h.sink h.there);
-  only = λ v lt pos. absurd (omega (arith, zero_all v));
-}
-
-module _ (reads needed : List (List ℕ)) (count : ℕ) (stamps sizes new found : List ℕ) (size : ℕ) (h : AreSized reads needed count stamps sizes) (w : Walked reads (row_at needed count) (count + 1) stamps new found) (is : size ≡ length found) where
-  sooner : (v : ℕ) → NeededBy (ConeAt reads needed) (range_with_len 0 count) v → NeededBy (ConeAt reads needed) (range_with_len 0 (count + 1)) v
-  sooner v n = record { sink = n.sink; there = to_range (count + 1) n.sink (omega (arith, in_range count n.sink n.there)); inside = n.inside }
-
-  at_last : (k v : ℕ) → k ≡ count → ConeAt reads needed k v → Contains found v
-  at_last k v e m = w.listed.all v (subst (λ j. ConeAt reads needed j v) e m)
-
-  pub sized_more : AreSized reads needed (count + 1) new (sizes ++ size ∷ [])
-  sized_more = record {
-    long = w.long ∙ h.long;
-    counted = length_push sizes size ∙ ap (λ n. n + 1) h.counted;
-    sized = λ k lt. ⊎_elim
-        (λ o. subst (Counts (ConeAt reads needed k)) (sym (push_old sizes size k (omega (arith, h.counted)))) (h.sized k o))
-        (λ past. let e : k ≡ count = omega arith in subst (Counts (ConeAt reads needed k)) (sym (push_new sizes size k (h.counted ∙ sym e) ∙ is))
-        (subst (λ j. Counts (ConeAt reads needed j) (length found)) (sym e) (record { numbers = found; listed = w.listed; count = refl }))) (cases_lt k count);
-    few = λ k lt. ⊎_elim
-        (λ o. omega (arith, push_old sizes size k (omega (arith, h.counted)), h.few k o))
-        (λ past. let e : k ≡ count = omega arith in omega (arith, push_new sizes size k (h.counted ∙ sym e), is, w.few, h.long)) (cases_lt k count);
-    early = λ v. ⊎_elim (λ same. omega (arith, h.early v)) (λ c. omega (arith, w.here v c)) (w.others v);
-    met = λ v n. ⊎_elim
-        (λ o. let f = h.met v (record { sink = n.sink; there = to_range count n.sink o; inside = n.inside }) in
-        (f.0, ⊎_elim (λ same. omega (arith, f.1)) (λ c. omega (arith, w.here v c)) (w.others v)))
-        (λ past. let c = at_last n.sink v (omega (arith, in_range (count + 1) n.sink n.there)) n.inside in (omega (arith, w.within v c, h.long), omega (arith, w.here v c))) (cases_lt n.sink count);
-    only = λ v lt pos. ⊎_elim (λ same. sooner v (h.only v lt (omega arith)))
-        (λ c. record { sink = count; there = to_range (count + 1) count (omega arith); inside = w.listed.only v c }) (w.others v);
-  }

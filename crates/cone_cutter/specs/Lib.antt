@@ -6,3 +6,5 @@ pub mod Examples
 pub mod Rows
 pub mod Walks
 pub mod Loads
+pub mod Marks
+pub mod Tallies

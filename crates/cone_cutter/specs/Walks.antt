@@ -1,8 +1,7 @@
 -- Walks of cones. A stamp stands for each leaf: the number of the walk in which it was met last.
 use Rattle.std.specs.Prelude.{◌≡◌, ◌≢◌, ◌⊎◌, ℕ, ◌+◌, ◌<◌, ◌≤◌, ◌==◌, not, List, ◌++◌, length, slice_index, count_by, Contains}
-use Rattle.std.specs.List.{range_with_len}
-use Rattle.cone_cutter.specs.Cuts.{Lists, Counts, NeededBy, GoesFirst}
-use Rattle.cone_cutter.specs.Rows.{row_at, Met, ConeAt}
+use Rattle.cone_cutter.specs.Cuts.{Lists, GoesFirst}
+use Rattle.cone_cutter.specs.Rows.{row_at, Met}
 
 -- each once
 abbrev pub IsOnce : List ℕ → Type 0
@@ -44,16 +43,6 @@ pub record Walked (reads : List (List ℕ)) (roots : List ℕ) (stamp : ℕ) (ol
   pub within : (v : ℕ) → Contains found v → v < length old
   pub here : (v : ℕ) → Contains found v → slice_index new v ≡ stamp
   pub others : (v : ℕ) → (slice_index new v ≡ slice_index old v) ⊎ Contains found v
-
--- The sizes of the first cones, and a stamp above 0 for what is in one of them.
-pub record AreSized (reads needed : List (List ℕ)) (count : ℕ) (stamps sizes : List ℕ) : Type 0 where
-  pub long : length stamps ≡ length reads
-  pub counted : length sizes ≡ count
-  pub sized : (k : ℕ) → k < count → Counts (ConeAt reads needed k) (slice_index sizes k)
-  pub few : (k : ℕ) → k < count → slice_index sizes k ≤ length reads
-  pub early : (v : ℕ) → slice_index stamps v ≤ count
-  pub met : (v : ℕ) → NeededBy (ConeAt reads needed) (range_with_len 0 count) v → (v < length reads) × (0 < slice_index stamps v)
-  pub only : (v : ℕ) → v < length reads → 0 < slice_index stamps v → NeededBy (ConeAt reads needed) (range_with_len 0 count) v
 
 -- The sinks whose cones have at least this size, in the order in which they are placed.
 pub record AreRanked (sizes : List ℕ) (size : ℕ) (order : List ℕ) : Type 0 where

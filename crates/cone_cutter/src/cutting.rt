@@ -7,12 +7,10 @@ ghost use Rattle.cone_cutter.specs.Cuts.{IsCut};
 ghost use Rattle.cone_cutter.specs.Loads.{holds, parts_by};
 
 use crate::buckets::buckets;
+use crate::holding::Holding;
 use crate::loads::is_held;
-use crate::needing::needs_of;
-use crate::placing::{owners_of, place_all};
-use crate::reading::rows_of;
-use crate::sinks::sinks_of;
-use crate::sizing::{Sizes, ranked};
+use crate::rows::NetRows;
+use crate::sizing::union_of;
 use bit_words::List;
 use ground_net::{Cut, CutPart, Ordered};
 use std::alloc::{AllocError, Global};
@@ -23,8 +21,9 @@ use std::alloc::{AllocError, Global};
 /// A sink is named by its number, from 0 in the order of the sinks of this watch list. The sinks of a partition rise, and its
 /// assignments stand in the order of the sequence.
 ///
-/// Each cone is walked twice and none is kept. Takes memory in proportion to the net, and time in proportion to the sum of the
-/// cones, times the partitions at most.
+/// Takes memory in proportion to the net. With one partition no cone is walked by itself, and the time is in proportion to the net.
+/// With more the sizes of the cones take a sweep over the net for every 64 sinks, and each cone is then walked once, to place its
+/// sink: the time is in proportion to the sum of the cones, beside the sweeps and the partitions for each sink.
 pub fn cut(alloc: Global, ordered: &Ordered, watch: &[u32], workers: u32) -> Result<Cut, AllocError>
     requires order { IsOrder ordered.now.net ordered.now.sequence }
     requires few { length ordered.now.net.leaves < 2 ^ 32 }
@@ -33,29 +32,20 @@ pub fn cut(alloc: Global, ordered: &Ordered, watch: &[u32], workers: u32) -> Res
     requires most { workers ≤ 64 }
     ensures { IfOk result (IsCut ordered.now watch.now workers) }
 {
-    let reads = rows_of(alloc, &ordered.net)?;
-    let sinks = sinks_of(alloc, &ordered.net, watch)?;
-    let needed = needs_of(alloc, &ordered.net, sinks.as_slice())?;
-    let sizes = Sizes::new(alloc, reads.as_slice(), needed.as_slice())?;
-    let order = ranked(alloc, sizes.sizes.as_slice(), reads.len() + 1)?;
-    let placed = place_all(
-        alloc,
-        reads.as_slice(),
-        needed.as_slice(),
-        order.as_slice(),
-        workers,
-    )?;
-    let owners = owners_of(alloc, placed.placings.as_slice(), needed.len())?;
+    let rows = NetRows::new(alloc, &ordered.net, watch)?;
+    let union = union_of(alloc, rows.reads.as_slice(), rows.needed.as_slice())?;
+    let sequence = ordered.sequence.as_slice();
+    let holding = Holding::new(alloc, &rows, union.as_slice(), sequence, workers)?;
     let parts = parts_of(
         alloc,
-        owners.as_slice(),
-        placed.load.masks.as_slice(),
-        ordered.sequence.as_slice(),
+        holding.owners.as_slice(),
+        holding.masks.as_slice(),
+        sequence,
         workers,
     )?;
     Ok(Cut {
         parts,
-        needed: sizes.needed,
+        needed: union.len() as u32,
     })
 }
 

@@ -5,13 +5,17 @@
 
 mod buckets;
 mod cutting;
+mod holding;
 pub mod laws;
 mod loads;
+mod marking;
 mod needing;
 mod placing;
 mod reading;
+mod rows;
 mod sinks;
 mod sizing;
+mod tallies;
 mod walking;
 
 pub use cutting::{cut, parts_of};

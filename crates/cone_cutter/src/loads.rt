@@ -3,6 +3,7 @@
 ghost use Rattle.std.specs.Prelude.{◌≡◌, ◌≢◌, ℕ, ◌+◌, ◌-◌, ◌<◌, ◌≤◌, ◌^◌, length, slice_index, true, false, All, IfOk, if◌then◌else◌};
 ghost use Rattle.cone_cutter.specs.Loads.{has_bit, holds, shared_by, cost_with, IsCheapest, Gets, Takes, HasRoom};
 
+use crate::tallies::add_mask;
 use std::alloc::{AllocError, Global};
 
 /// What each partition holds, and how much it is.
@@ -78,28 +79,34 @@ pub fn without_bit(mask: u64, part: u32) -> u64
 }
 
 /// Counts the leaves that a cone shares with each partition.
+///
+/// Takes time in proportion to the cone, whatever the partitions.
 pub fn count_shared(masks: &[u64], cone: &[u32], shared: &mut [usize])
     requires within { All (λ x. x < length masks.now) cone.now }
     requires few { length shared.old ≤ 64 }
     ensures { (p : ℕ) → p < length shared.new → slice_index shared.new p ≡ shared_by masks.now cone.now p }
 {
-    shared.fill(0);
+    let mut planes: [u64; 64] = [0; 64];
     for leaf in cone {
-        count_bits(masks[*leaf as usize], shared);
+        add_mask(&mut planes, masks[*leaf as usize]);
+    }
+    shared.fill(0);
+    for digit in 0..64 {
+        count_bits(planes[digit], 1 << digit, shared);
     }
 }
 
-/// Counts the bits of a mask, each at its partition.
-fn count_bits(mask: u64, shared: &mut [usize])
+/// Adds a weight for each bit of a mask, at its partition.
+fn count_bits(mask: u64, weight: usize, shared: &mut [usize])
     requires few { length shared.old ≤ 64 }
-    requires fits { (p : ℕ) → p < length shared.old → slice_index shared.old p + 1 < 2 ^ 64 }
-    ensures { (p : ℕ) → p < length shared.new → slice_index shared.new p ≡ slice_index shared.old p + (if has_bit mask p then 1 else 0) }
+    requires fits { (p : ℕ) → p < length shared.old → slice_index shared.old p + (if has_bit mask p then weight else 0) < 2 ^ 64 }
+    ensures { (p : ℕ) → p < length shared.new → slice_index shared.new p ≡ slice_index shared.old p + (if has_bit mask p then weight else 0) }
 {
     let mut rest = mask;
     'bits: while rest != 0 {
         let part = rest.trailing_zeros();
         if (part as usize) < shared.len() {
-            shared[part as usize] += 1;
+            shared[part as usize] += weight;
         }
         rest = without_bit(rest, part);
     }

@@ -4,7 +4,7 @@ use Rattle.cone_cutter.proofs.loads.count_bits.Given as goal
 
 abbrev pub invariant-bits : goal.invariant-bits
 invariant-bits l = record {
-  counts : CountsBits l.fn.shared l.mask l.shared l.rest;
+  counts : CountsBits l.weight l.fn.shared l.mask l.shared l.rest;
   few : l.rest ≤ l.mask;
 }
 
