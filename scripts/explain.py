@@ -41,7 +41,7 @@ def aligned(rows):
 
 
 def texts_of(words):
-    """The names of the circuit and of the stimulus that a command line reads, as far as it has them."""
+    """The names of the circuit, of the stimulus and of the state that a command line reads, as far as it has them."""
     asked, names, words = (words + [""])[0], [], iter(words[1:])
     for word in words:
         if word == "--":
@@ -50,7 +50,8 @@ def texts_of(words):
             next(words, None)
         elif not word.startswith("--"):
             names.append(word)
-    return (names + ["-"])[0], names[1] if asked == "run" and len(names) > 1 else None
+    second = names[1] if len(names) > 1 else None
+    return (names + ["-"])[0], second if asked == "run" else None, second if asked in ("save", "resume") else None
 
 
 def shown(char):
@@ -99,22 +100,22 @@ def advice(stage, kind, line, column):
             found = re.search(rb"(?<![\w$-])" + re.escape(word.encode()) + (rb"(?![\w$-])" if word[-1].isalnum() else b""), place)
             if stage == "circuit" and f"`{kind}`" in answer and found and (found.start() == 0 or answer.endswith("in its line")):
                 return what
-    told = section("FAULTS.md", "## Of a circuit" if stage == "circuit" else "## Of a stimulus") + "\n### "
+    told = section("FAULTS.md", f"## Of a {stage}") + "\n### "
     found = re.search(rf"^### {kind}\n\n(.*?)\n\n", told, re.M | re.S)
     return found[1].replace("\n", " ") if found else "docs/FAULTS.md tells of faults"
 
 
 def fault(program, status, words):
-    """The lines that show a fault of a circuit or of a stimulus, where the texts are files."""
-    circuit, stimulus = texts_of(words)
-    if not all(name is None or os.path.isfile(name) for name in (circuit, stimulus)):
+    """The lines that show a fault of a circuit, of a stimulus or of a state, where the texts are files."""
+    circuit, stimulus, state = texts_of(words)
+    if not all(name is None or os.path.isfile(name) for name in (circuit, stimulus, state)):
         return []
     done = subprocess.run([program, *words], stdin=subprocess.DEVNULL, capture_output=True)
-    said = re.fullmatch(rb"(circuit|stimulus) (\w+) (\d+):(\d+)\n", done.stdout)
+    said = re.fullmatch(rb"(circuit|stimulus|state) (\w+) (\d+):(\d+)\n", done.stdout)
     if done.returncode != status or not said:
         return []
     stage, kind, number, column = said[1].decode(), said[2].decode(), int(said[3]), int(said[4])
-    name = stimulus if stage == "stimulus" and stimulus else circuit
+    name = state if stage == "state" else stimulus if stage == "stimulus" and stimulus else circuit
     lines = Path(name).read_bytes().split(b"\n")
     if stage == "stimulus" and not stimulus:
         # the stimulus' lines are counted from the one behind the first line `%stimulus`

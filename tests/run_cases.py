@@ -17,6 +17,7 @@ from pathlib import Path
 import dump_cases
 import minute
 import refine_cases
+import state_cases
 import wave_cases
 
 # The witness runs each circuit for so many cycles, but not those with so many leaves that it would take too long; and of the cases those
@@ -201,7 +202,8 @@ def chains():
 def told_faults(page):
     """The cases of docs/FAULTS.md: a block of text under a heading with a kind, and the line that is written."""
     front = "FIRRTL version 3.0.0\ncircuit M :\n  module M :\n"
-    module = "".join(f"    {line}\n" for line in re.search(r"with these lines:\n\n```\n(.*?)```", page, re.S)[1].splitlines())
+    shared = re.findall(r"with these lines.*?:\n\n```\n(.*?)```", page, re.S)
+    module, held = ("".join(f"    {line}\n" for line in lines.splitlines()) for lines in shared)
     for kind, told in re.findall(r"^### (\w+)\n(.*?)(?=^##|\Z)", page, re.M | re.S):
         shown = re.search(r"^```\n(.*?)```\n\n`(.*?)`", told, re.M | re.S)
         if not shown:
@@ -209,6 +211,10 @@ def told_faults(page):
         (text, line), words, status = shown.groups(), ["check"], 2
         if line.startswith("stimulus"):
             words, status, text = ["run"], 3, front + module + "%stimulus\n" + text
+        elif line.startswith("state"):
+            case = {"words": ["resume", "-", "s"], "stdin": front + held + "%stimulus\ncycles 0\n", "held": {"s": text}, "status": 3, "stdout": line + "\n"}
+            yield f"docs/FAULTS.md: {kind} of a state", case
+            continue
         elif "The whole text:" not in told:
             text = front + "".join(f"    {each}\n" for each in text.splitlines())
         asked = re.search(r"^By `(vcd.*?)`", told, re.M)
@@ -283,6 +289,7 @@ def main():
     faults += minute.faults(program)
     faults += wave_cases.faults(program)
     faults += dump_cases.faults(program)
+    faults += state_cases.faults(program)
     failed = [(name, fault) for name, fault in faults if fault]
     for name, fault in failed:
         print(f"FAILED {name}: {fault}")
