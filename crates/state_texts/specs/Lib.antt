@@ -1,0 +1,3 @@
+-- what a reader must believe
+pub mod Held
+pub mod Texts
