@@ -1,0 +1,4 @@
+pub mod Inputs
+pub mod Captures
+pub mod States
+pub mod Begun
