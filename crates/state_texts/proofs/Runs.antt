@@ -1,8 +1,8 @@
 -- Runs from states that are the same lead to states that are the same; and a run is its first cycles, and then the others.
-use Rattle.std.proofs.Common.{◌≡◌, ℕ, List, [], ◌∷◌, ◌++◌, length, ℤ, refl, sym, ap, ◌∙◌}
+use Rattle.std.proofs.Common.{◌≡◌, ℕ, suc, List, [], ◌∷◌, ◌++◌, length, ℤ, refl, sym, ap, ◌∙◌}
 use Rattle.fir_meaning.specs.Components.{Design, FlatLeaf, HasBundles}
 use Rattle.fir_meaning.specs.Loops.{HasNoLoop, HasLeaves, TakesLeaves}
-use Rattle.fir_meaning.specs.States.{State, SameState, Inputs, Trace, WatchedTrace, ended, cycle, row_of, watched_leaves}
+use Rattle.fir_meaning.specs.States.{State, SameState, Inputs, Trace, WatchedTrace, ended, cycle, row_of, watched_leaves, next}
 use Rattle.fir_meaning.proofs.Settling.{settled_same}
 use Rattle.fir_meaning.proofs.Nexts.{next_same}
 use Rattle.state_texts.specs.Texts.{Reaches, there, onward}
@@ -42,7 +42,7 @@ pub record Parted (design : Design) (s : State) (given later : List Inputs) (row
 pub trace_parts : (design : Design) (s : State) (given later : List Inputs) {rows : List (List ℤ)} → Trace design s (given ++ later) rows → Parted design s given later rows
 trace_parts design s [] later {rows} t = record { middle = s; front = []; back = rows; is = refl; first = ended; reached = there; second = t }
 trace_parts design s (g ∷ given) later (cycle rho settled rest) =
-    let r = trace_parts design _ given later rest in
+    let r = trace_parts design (next design s rho) given later rest in
     record {
       middle = r.middle;
       front = row_of (watched_leaves design) rho ∷ r.front;

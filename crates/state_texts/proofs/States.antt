@@ -76,24 +76,24 @@ memory_at placed z v e =
 memories_once : (placed : List Placed) → Once placed → (z m : ℕ) (v w : OfMemory) → slice_get (all_memories placed) z ≡ Some v → slice_get (all_memories placed) m ≡ Some w
     → v.0.path ≡ w.0.path → v.0.c.declaration.name ≡ w.0.c.declaration.name → z ≡ m
 memories_once [] once z m v w e f at name = none_some e
-memories_once (p ∷ ps) once z m v w e f at name = by (memory_in p p.c.declaration.sort) refl z m e f where
-  later : (z m : ℕ) → slice_get (all_memories ps) z ≡ Some v → slice_get (all_memories ps) m ≡ Some w → z ≡ m
-  later z m e f = memories_once ps (rest_once p ps once) z m v w e f at name
-
-  by : (o : Option OfMemory) → memory_in p p.c.declaration.sort ≡ o → (z m : ℕ) → slice_get (cons_option o (all_memories ps)) z ≡ Some v → slice_get (cons_option o (all_memories ps)) m ≡ Some w → z ≡ m
-  by None q z m e f = later z m e f
-  by (Some u) q zero zero e f = refl
-  by (Some u) q zero (suc m) e f =
-      let first = (memory_is p p.c.declaration.sort v.0 v.1 (q ∙ e)).0 in
-      let other = memory_at ps m w f in
-      let s : 0 ≡ suc other.0 = once 0 (suc other.0) p w.0 refl other.1 (ap (λ (x : Placed). x.path) first ∙ at) (ap (λ (x : Placed). x.c.declaration.name) first ∙ name) in
-      absurd (omega arith)
-  by (Some u) q (suc z) zero e f =
-      let first = (memory_is p p.c.declaration.sort w.0 w.1 (q ∙ f)).0 in
-      let other = memory_at ps z v e in
-      let s : suc other.0 ≡ 0 = once (suc other.0) 0 v.0 p other.1 refl (at ∙ ap (λ (x : Placed). x.path) (sym first)) (name ∙ ap (λ (x : Placed). x.c.declaration.name) (sym first)) in
-      absurd (omega arith)
-  by (Some u) q (suc z) (suc m) e f = ap suc (later z m e f)
+memories_once (p ∷ ps) once z m v w e f at name =
+    by (memory_in p p.c.declaration.sort) refl z m e f (λ z m e f. memories_once ps (rest_once p ps once) z m v w e f at name)
+  where
+    by : (o : Option OfMemory) → memory_in p p.c.declaration.sort ≡ o → (z m : ℕ) → slice_get (cons_option o (all_memories ps)) z ≡ Some v → slice_get (cons_option o (all_memories ps)) m ≡ Some w
+        → ((z m : ℕ) → slice_get (all_memories ps) z ≡ Some v → slice_get (all_memories ps) m ≡ Some w → z ≡ m) → z ≡ m
+    by None q z m e f later = later z m e f
+    by (Some u) q zero zero e f later = refl
+    by (Some u) q zero (suc m) e f later =
+        let first = (memory_is p p.c.declaration.sort v.0 v.1 (q ∙ e)).0 in
+        let other = memory_at ps m w f in
+        let s : 0 ≡ suc other.0 = once 0 (suc other.0) p w.0 refl other.1 (ap (λ (x : Placed). x.path) first ∙ at) (ap (λ (x : Placed). x.c.declaration.name) first ∙ name) in
+        absurd (omega arith)
+    by (Some u) q (suc z) zero e f later =
+        let first = (memory_is p p.c.declaration.sort w.0 w.1 (q ∙ f)).0 in
+        let other = memory_at ps z v e in
+        let s : suc other.0 ≡ 0 = once (suc other.0) 0 v.0 p other.1 refl (at ∙ ap (λ (x : Placed). x.path) (sym first)) (name ∙ ap (λ (x : Placed). x.c.declaration.name) (sym first)) in
+        absurd (omega arith)
+    by (Some u) q (suc z) (suc m) e f later = ap suc (later z m e f)
 
 -- What is held of a leaf, by its role
 
