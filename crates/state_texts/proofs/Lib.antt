@@ -15,3 +15,4 @@ pub mod Faultless
 pub mod ReadBack
 pub mod Split
 pub mod Anew
+pub mod Accepted
