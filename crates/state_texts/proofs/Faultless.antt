@@ -21,7 +21,7 @@ use Rattle.snapshot_text.specs.Snapshots.{HasWords, IsUnbroken, values_of}
 use Rattle.snapshot_text.proofs.Named.{cells_named}
 use Rattle.snapshot_text.proofs.Faultless.{faultless}
 use Rattle.state_texts.specs.Held.{IsReadAs, IsFirstStateFault}
-use Rattle.state_texts.proofs.Sound.{IsSound}
+use Rattle.state_texts.proofs.Sound.{IsSound, its_net_serves}
 use Rattle.state_texts.proofs.TwoNets.{cells_same}
 
 module _ (texts : Texts) (are : All IsName texts) (design : Design) where
@@ -44,6 +44,6 @@ module _ (texts : Texts) (are : All IsName texts) (design : Design) where
   pub no_fault : IsSound texts design → (text : List ℕ) (s : State) (snapshot : Snapshot) (fault : StateFault) → IsReadAs texts design text s snapshot → IsFirstStateFault texts design text fault → ⊥
   no_fault sound text s snapshot fault a b =
       let net = a.held.net in
-      let cells = cells_same texts design net b.net (sound.serves net a.held.of) (sound.serves b.net b.of) in
+      let cells = cells_same texts design net b.net (its_net_serves sound net a.held.of) (its_net_serves sound b.net b.of) in
       faultless (cells_of net (inputs net)) text snapshot.cycle (values_of net a.held.state snapshot.inputs) (cells_named net (inputs net) (has_words net a.held.of)) a.read fault
       (subst (λ cs. IsFault cs text fault) (sym cells) b.first.is)

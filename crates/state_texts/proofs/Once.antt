@@ -26,7 +26,7 @@ use Rattle.snapshot_text.specs.Ranks.{one_each}
 use Rattle.snapshot_text.proofs.Texts.{state_once}
 use Rattle.state_texts.specs.Held.{IsHeld, IsStateText, IsReadAs, Begins, anew, from_text, IsFirstStateFault}
 use Rattle.state_texts.specs.Texts.{all_inputs_from, Reaches, IsResumedText, IsSavedText}
-use Rattle.state_texts.proofs.Sound.{IsSound}
+use Rattle.state_texts.proofs.Sound.{IsSound, its_net_serves}
 use Rattle.state_texts.proofs.Runs.{reached_same}
 use Rattle.state_texts.proofs.TwoNets.{inputs_same, cells_same, integers_same, values_split}
 
@@ -40,8 +40,8 @@ module _ (texts : Texts) (design : Design) (sound : IsSound texts design) where
   -- A text is read as one state.
   pub read_once : (text other : List ℕ) (s s' : State) (snapshot snapshot' : Snapshot) → text ≡ other → IsReadAs texts design text s snapshot → IsReadAs texts design other s' snapshot' → SameStart design s s' snapshot snapshot'
   read_once text other s s' snapshot snapshot' e a b =
-      let one = sound.serves a.held.net a.held.of in
-      let two = sound.serves b.held.net b.held.of in
+      let one = its_net_serves sound a.held.net a.held.of in
+      let two = its_net_serves sound b.held.net b.held.of in
       let cells : cells_of b.held.net (inputs b.held.net) ≡ cells_of a.held.net (inputs a.held.net) = sym (cells_same texts design a.held.net b.held.net one two) in
       let again : IsState (cells_of a.held.net (inputs a.held.net)) text snapshot'.cycle (values_of b.held.net b.held.state snapshot'.inputs) =
       subst (λ bytes. IsState (cells_of a.held.net (inputs a.held.net)) bytes snapshot'.cycle (values_of b.held.net b.held.state snapshot'.inputs)) (sym e)
@@ -55,15 +55,15 @@ module _ (texts : Texts) (design : Design) (sound : IsSound texts design) where
   begins_once (anew snapshot held cycle row) (anew snapshot' held' cycle' row') = record {
     states = state_itself design first_state;
     cycles = cycle ∙ sym cycle';
-    inputs = row ∙ (ap (map zero_of) (inputs_same texts design held.net held'.net (sound.serves held.net held.of) (sound.serves held'.net held'.of)) ∙ sym row');
+    inputs = row ∙ (ap (map zero_of) (inputs_same texts design held.net held'.net (its_net_serves sound held.net held.of) (its_net_serves sound held'.net held'.of)) ∙ sym row');
   }
-  begins_once (from_text text s snapshot read) (from_text text s' snapshot' read') = read_once text text s s' snapshot snapshot' refl read read'
+  begins_once (from_text text s snapshot read) (from_text other s' snapshot' read') = read_once text text s s' snapshot snapshot' refl read read'
 
   -- The text of a state is one.
   pub text_once : (s s' : State) (snapshot snapshot' : Snapshot) (text other : List ℕ) → SameStart design s s' snapshot snapshot' → IsStateText texts design s snapshot text → IsStateText texts design s' snapshot' other → text ≡ other
   text_once s s' snapshot snapshot' text other same a b =
-      let one = sound.serves a.held.net a.held.of in
-      let two = sound.serves b.held.net b.held.of in
+      let one = its_net_serves sound a.held.net a.held.of in
+      let two = its_net_serves sound b.held.net b.held.of in
       let integers = integers_same texts design a.held.net b.held.net one two s s' a.held.state b.held.state a.held.same b.held.same same.states in
       let values : values_of a.held.net a.held.state snapshot.inputs ≡ values_of b.held.net b.held.state snapshot'.inputs = ap₂ (λ (row : List Value) (vs : List ℤ). map integer_of row ++ vs) same.inputs integers in
       a.is
@@ -102,4 +102,4 @@ module _ (texts : Texts) (design : Design) (sound : IsSound texts design) where
   pub fault_once : (text : List ℕ) (fault other : StateFault) → IsFirstStateFault texts design text fault → IsFirstStateFault texts design text other → fault ≡ other
   fault_once text fault other a b =
       one_first place_of rank_of one_each fault other a.first
-      (subst (λ cs. IsFirst place_of rank_of (IsFault cs text) other) (sym (cells_same texts design a.net b.net (sound.serves a.net a.of) (sound.serves b.net b.of))) b.first)
+      (subst (λ cs. IsFirst place_of rank_of (IsFault cs text) other) (sym (cells_same texts design a.net b.net (its_net_serves sound a.net a.of) (its_net_serves sound b.net b.of))) b.first)

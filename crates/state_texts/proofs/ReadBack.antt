@@ -24,7 +24,7 @@ use Rattle.snapshot_text.proofs.Keeping.{state_holds}
 use Rattle.snapshot_text.proofs.Numbers.{digits_plain, decimal_writes}
 use Rattle.snapshot_text.proofs.Texts.{state_read}
 use Rattle.state_texts.specs.Held.{IsStateText, IsReadAs}
-use Rattle.state_texts.proofs.Sound.{IsSound}
+use Rattle.state_texts.proofs.Sound.{IsSound, its_net_serves}
 use Rattle.state_texts.proofs.TwoNets.{cells_same}
 use Rattle.state_texts.proofs.Once.{SameStart, read_once}
 
@@ -61,7 +61,7 @@ module _ (texts : Texts) (design : Design) (sound : IsSound texts design) where
       let cells : List Cell = cells_of net (inputs net) in
       let values : List ℤ = values_of net a.held.state snapshot.inputs in
       let others : List ℤ = values_of b.held.net b.held.state snapshot'.inputs in
-      let one : cells_of b.held.net (inputs b.held.net) ≡ cells = sym (cells_same texts design net b.held.net (sound.serves net a.held.of) (sound.serves b.held.net b.held.of)) in
+      let one : cells_of b.held.net (inputs b.held.net) ≡ cells = sym (cells_same texts design net b.held.net (its_net_serves sound net a.held.of) (its_net_serves sound b.held.net b.held.of)) in
       let again : IsState cells (state_text cells snapshot.cycle values) snapshot'.cycle others =
       subst (λ bytes. IsState cells bytes snapshot'.cycle others) a.is (subst (λ cs. IsState cs text snapshot'.cycle others) one b.read) in
       let cycle : snapshot.cycle ≡ snapshot'.cycle = cycles_back cells snapshot.cycle snapshot'.cycle values others small again in

@@ -24,7 +24,7 @@ use Rattle.snapshot_text.specs.declared.snapshot.Snapshot.{Snapshot}
 use Rattle.snapshot_text.specs.Texts.{most_cycles}
 use Rattle.state_texts.specs.Held.{IsHeld, IsReadAs, Begins, anew, from_text}
 use Rattle.state_texts.specs.Texts.{all_inputs_from, Reaches, IsResumedText, IsSavedText}
-use Rattle.state_texts.proofs.Sound.{IsSound}
+use Rattle.state_texts.proofs.Sound.{IsSound, its_net_serves}
 use Rattle.state_texts.proofs.Runs.{Parted, trace_parts, rows_long, reached_same, same_on}
 use Rattle.state_texts.proofs.Given.{given_parts_two, given_long}
 use Rattle.state_texts.proofs.TwoNets.{row_long, its_ports, ports_of}
@@ -53,7 +53,7 @@ module _ (texts : Texts) (design : Design) (sound : IsSound texts design) (ports
   begun_values : {begin : Option (List ℕ)} {s : State} {snapshot : Snapshot} → Begins texts design begin s snapshot → AreValuesOf ports.inputs snapshot.inputs
   begun_values {snapshot = snapshot} begins =
       let held = held_of begins in
-      let same : ports_of held.net ≡ ports = ports_once texts design (ports_of held.net) ports (its_ports texts design held.net (sound.serves held.net held.of)) are in
+      let same : ports_of held.net ≡ ports = ports_once texts design (ports_of held.net) ports (its_ports texts design held.net (its_net_serves sound held.net held.of)) are in
       subst (λ (p : Ports). AreValuesOf p.inputs snapshot.inputs) same held.holds.inputs
 
   enough : (row : List Value) → AreValuesOf ports.inputs row → length (given_parts design) ≤ length row
