@@ -1,12 +1,7 @@
 -- What a well formed circuit keeps stands apart, where it does in the memories that have no ports.
-use Rattle.std.proofs.Common.{◌≡◌, ℕ, List, [], Some, sym, ap, ◌∙◌, slice_get}
-use Rattle.fir_types.specs.declared.leaf.TypeLeaf.{TypeLeaf}
-use Rattle.fir_types.specs.declared.memory.Memory.{Memory}
-use Rattle.fir_types.specs.Leaves.{leaves}
-use Rattle.fir_types.specs.Memories.{element_of}
+use Rattle.std.proofs.Common.{◌≡◌, ℕ, Some, sym, ap, ◌∙◌, slice_get}
 use Rattle.fir_tree.specs.declared.scope.Fitted.{Fitted}
-use Rattle.fir_meaning.specs.Components.{TypedModule, Component, A_memory, component_named, module_at, declarations_of, design_of}
-use Rattle.fir_meaning.specs.MemoryPorts.{memory_ports}
+use Rattle.fir_meaning.specs.Components.{Component, declarations_of, design_of}
 use Rattle.fir_meaning.proofs.Ports.{component_found}
 use Rattle.fir_names.proofs.Members.{Contains-get}
 use Rattle.circuit_laws.specs.WellFormed.{IsWellFormed}

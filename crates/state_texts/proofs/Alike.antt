@@ -2,7 +2,6 @@
 use Rattle.std.proofs.Common.{◌≡◌, ℕ, zero, suc, ◌<◌, Bool, true, false, List, [], ◌∷◌, ◌++◌, length, map, Option, Some, None, option_map, refl, sym, ap, ap₂, ◌∙◌, subst, arith, ◌⊎◌, inl, inr, slice_get, if◌then◌else◌}
 use Rattle.std.specs.Prelude.{⊤, filter_map, codes}
 use Rattle.std.specs.List.{flat_map, range_with_len, cons_option}
-use Rattle.std.proofs.lemmas.List.{length-map}
 use mathlib.Core.Path.{fun_ext}
 use Rattle.bit_words.specs.declared.value.Kind.{Kind}
 use Rattle.fir_types.specs.declared.fir_type.FirType.{FirType}
@@ -10,7 +9,6 @@ use Rattle.fir_types.specs.declared.memory.Memory.{Memory}
 use Rattle.fir_types.specs.Leaves.{leaves}
 use Rattle.fir_tree.specs.LeafNames.{Texts}
 use Rattle.fir_meaning.specs.Components.{Design}
-use Rattle.ground_net.specs.declared.net.ElementLeaf.{ElementLeaf}
 use Rattle.ground_net.specs.declared.net.Leaf.{Leaf}
 use Rattle.ground_net.specs.declared.net.Net.{Net}
 use Rattle.ground_net.specs.declared.net.NetMemory.{NetMemory}
@@ -18,7 +16,7 @@ use Rattle.ground_net.specs.declared.net.NetRegister.{NetRegister}
 use Rattle.ground_net.specs.declared.net.Role.{Role}
 use Rattle.ground_net.specs.declared.net.Role.TheVariants as role
 use Rattle.net_meaning.specs.Cycles.{Capture, captures}
-use Rattle.net_meaning.specs.Nets.{IsNet, HasRole}
+use Rattle.net_meaning.specs.Nets.{IsNet}
 use Rattle.net_of_circuit.specs.FlatOrder.{Placed, Standing, all_leaves, all_memories}
 use Rattle.net_of_circuit.specs.NetOf.{Part, Held, Kept, part_of_role, IsMemoryOf, IsNetWith}
 use Rattle.net_laws.proofs.Numbers.{some_same, none_some, below_length}

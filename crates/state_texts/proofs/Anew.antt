@@ -1,5 +1,5 @@
 -- A run that goes on from no state is one from the state in which all is 0.
-use Rattle.std.proofs.Common.{◌≡◌, ℕ, List, [], ◌∷◌, ◌++◌, map, Option, None, refl, sym, ap, ap₂, ◌∙◌, subst}
+use Rattle.std.proofs.Common.{◌≡◌, ℕ, List, [], ◌∷◌, ◌++◌, map, None, refl, sym, ap, ◌∙◌, subst}
 use Rattle.std.specs.List.{flat_map, enumerate_from}
 use Rattle.fir_tree.specs.LeafNames.{Texts}
 use Rattle.fir_meaning.specs.Components.{Design}
@@ -16,7 +16,7 @@ use Rattle.trace_print.specs.Trace.{header_of}
 use Rattle.circuit_run.specs.Traces.{all_inputs, watched_names, line_of, IsTraceText}
 use Rattle.circuit_run.proofs.Traces.{first_within, firsts_match}
 use Rattle.snapshot_text.specs.declared.snapshot.Snapshot.{Snapshot}
-use Rattle.state_texts.specs.Held.{Begins, anew, from_text}
+use Rattle.state_texts.specs.Held.{Begins, anew}
 use Rattle.state_texts.specs.Texts.{all_inputs_from, IsResumedText}
 use Rattle.state_texts.proofs.Given.{given_from_zeros}
 

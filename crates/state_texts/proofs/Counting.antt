@@ -5,7 +5,6 @@ use Rattle.std.proofs.lemmas.List.{length-map}
 use Rattle.ground_net.specs.declared.net.Net.{Net}
 use Rattle.ground_net.specs.declared.net.NetMemory.{NetMemory}
 use Rattle.ground_net.specs.declared.net.NetRegister.{NetRegister}
-use Rattle.ground_net.specs.Cones.{numbered}
 use Rattle.net_meaning.specs.Shapes.{Shape}
 use Rattle.net_meaning.specs.Cycles.{NetState, Capture, captures}
 use Rattle.net_meaning.specs.Nets.{register_shapes, element_shape, element_shapes, captured_shapes, shape_or_none}

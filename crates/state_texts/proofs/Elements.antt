@@ -1,5 +1,5 @@
 -- The leaves of a memory's elements are one list.
-use Rattle.std.proofs.Common.{◌≡◌, ◌≢◌, ℕ, suc, Bool, true, false, not, List, [], ◌∷◌, ◌++◌, map, slice_get, Option, Some, None, refl, sym, ap, ap₂, ◌∙◌, subst, arith, if◌then◌else◌}
+use Rattle.std.proofs.Common.{◌≡◌, ◌≢◌, ℕ, suc, Bool, true, false, not, List, [], ◌∷◌, ◌++◌, map, slice_get, Some, refl, sym, ap, ap₂, ◌∙◌, subst, arith, if◌then◌else◌}
 use Rattle.std.specs.Prelude.{⊤, filter_map}
 use Rattle.std.specs.List.{flat_map}
 use Rattle.std.proofs.lemmas.Grind.{common_steps}
@@ -18,7 +18,7 @@ use Rattle.fir_types.specs.declared.memory.PortMode.TheVariants as mode
 use Rattle.fir_types.specs.Leaves.{leaves, under}
 use Rattle.fir_types.specs.Memories.{element_of, depth_of}
 use Rattle.fir_types.specs.Bundles.{nowhere, addr_name, en_name, clk_name, data_name, mask_name, rdata_name, wmode_name, wdata_name, wmask_name, plain_field, uint_at, clock_at, address_bits, fields_of_mode, port_type, port_field, mask_of}
-use Rattle.fir_meaning.specs.Components.{Component, ports_bundle}
+use Rattle.fir_meaning.specs.Components.{Component}
 use Rattle.fir_meaning.specs.MemoryPorts.{MemoryPort, port_in, memory_ports}
 use Rattle.fir_meaning.specs.Elements.{IsElement}
 use Rattle.fir_meaning.proofs.Ports.{bundle_leaves}
@@ -233,12 +233,12 @@ data_differ : (typ : FirType) (depth : ℕ) (at : Place) (m : PortMode) (name : 
 data_differ typ depth at m name lines h j k a b e f same =
     let d : ℕ = data_field m in
     let there : (i : ℕ) (l : TypeLeaf) → slice_get (leaves typ) i ≡ Some l
-        → slice_get (first_three depth name (behind typ depth m name lines)) (suc (suc (suc i))) ≡ Some (of_port name.id (under (step.Field d ∷ []) (is_read m) l)) = λ i l g.
+    → slice_get (first_three depth name (behind typ depth m name lines)) (suc (suc (suc i))) ≡ Some (of_port name.id (under (step.Field d ∷ []) (is_read m) l)) = λ i l g.
     first_of (map (of_port name.id) (map (under (step.Field d ∷ []) (is_read m)) (leaves typ))) (map (of_port name.id) (flat_map in_field (other_fields name.place typ m)) ++ all_fields typ depth lines) i
     (of_port name.id (under (step.Field d ∷ []) (is_read m) l))
     (map_at (of_port name.id) (map (under (step.Field d ∷ []) (is_read m)) (leaves typ)) i (under (step.Field d ∷ []) (is_read m) l) (map_at (under (step.Field d ∷ []) (is_read m)) (leaves typ) i l g)) in
     let whole : (i : ℕ) (l : TypeLeaf) → slice_get (leaves typ) i ≡ Some l
-        → slice_get (all_fields typ depth (line.MemPort at m name ∷ lines)) (suc (suc (suc i))) ≡ Some (of_port name.id (under (step.Field d ∷ []) (is_read m) l)) = λ i l g.
+    → slice_get (all_fields typ depth (line.MemPort at m name ∷ lines)) (suc (suc (suc i))) ≡ Some (of_port name.id (under (step.Field d ∷ []) (is_read m) l)) = λ i l g.
     ap (λ ls. slice_get ls (suc (suc (suc i)))) (split typ depth at m name lines) ∙ there i l g in
     let one : suc (suc (suc j)) ≡ suc (suc (suc k)) =
     h (suc (suc (suc j))) (suc (suc (suc k))) (of_port name.id (under (step.Field d ∷ []) (is_read m) a)) (of_port name.id (under (step.Field d ∷ []) (is_read m) b)) (whole j a e) (whole k b f)

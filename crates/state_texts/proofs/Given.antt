@@ -1,8 +1,8 @@
 -- What main's inputs are given from a row on, cycle by cycle: what stands in the rows of the stimulus. So it comes in two parts, and from zeros
 -- it is what the stimulus alone gives.
-use Rattle.std.proofs.Common.{◌≡◌, ℕ, zero, suc, ◌==◌, ◌&&◌, ◌+◌, ◌-◌, ◌<◌, ◌≤◌, List, [], ◌∷◌, ◌++◌, map, length, Option, Some, None, option_map, ℤ, pos, negsuc, refl, sym, ap, ap₂, ◌∙◌, subst, arith, slice_get, nat_lt, if◌then◌else◌, ◌*◌, ◌^◌, true}
+use Rattle.std.proofs.Common.{◌≡◌, ℕ, zero, suc, ◌==◌, ◌&&◌, ◌+◌, ◌-◌, ◌<◌, ◌≤◌, List, [], ◌∷◌, ◌++◌, map, length, Option, Some, None, option_map, ℤ, pos, negsuc, refl, sym, ap, ap₂, ◌∙◌, arith, slice_get, nat_lt, if◌then◌else◌, ◌*◌, ◌^◌, true}
 use Rattle.std.specs.Prelude.{position}
-use Rattle.std.specs.List.{range_with_len, enumerate_from, AllZip}
+use Rattle.std.specs.List.{range_with_len, enumerate_from}
 use Rattle.std.proofs.lemmas.Nat.{pow_pos}
 use Rattle.std.proofs.lemmas.Bool.Decides.{nat_tests}
 use Rattle.std.proofs.lemmas.List.{map-append}
@@ -26,7 +26,7 @@ use Rattle.stimulus.specs.Rows.{zero_of, last_set, value_or}
 use Rattle.stimulus_parts.specs.Parts.{row_from, rows_from, last_row, first_settings, second_settings, first_part, second_part}
 use Rattle.stimulus_parts.proofs.Rows.{rows_split}
 use Rattle.circuit_run.specs.Ports.{PortPart, given_parts}
-use Rattle.circuit_run.specs.Traces.{input_number, integer_set, integer_given, inputs_in, all_inputs}
+use Rattle.circuit_run.specs.Traces.{input_number, integer_set, integer_given, all_inputs}
 use Rattle.circuit_run.specs.NetRuns.{integer_set_or}
 use Rattle.circuit_run.proofs.Lists.{get_enumerate}
 use Rattle.state_texts.specs.Texts.{integer_or_zero, integer_given_from, inputs_in_from, all_inputs_from}

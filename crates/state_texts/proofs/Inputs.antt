@@ -6,10 +6,8 @@ use Rattle.bit_words.specs.declared.value.Kind.TheVariants.{Unsigned}
 use Rattle.bit_words.specs.declared.value.Value.{Value}
 use Rattle.bit_words.specs.Values.{InRange, integer_of}
 use Rattle.cycle_values.proofs.Fittings.{value_in_range}
-use Rattle.fir_types.specs.declared.leaf.PathStep.{PathStep}
 use Rattle.fir_tree.specs.LeafNames.{Texts}
 use Rattle.fir_meaning.specs.Components.{Design}
-use Rattle.ground_net.specs.declared.net.Leaf.{Leaf}
 use Rattle.ground_net.specs.declared.net.Net.{Net}
 use Rattle.ground_net.specs.declared.net.Ports.{Ports}
 use Rattle.ground_net.specs.declared.net.PortLeaf.{PortLeaf}
@@ -24,8 +22,8 @@ use Rattle.stimulus.specs.declared.stimulus.Stimulus.{Stimulus}
 use Rattle.stimulus.specs.declared.stimulus.Setting.{Setting}
 use Rattle.stimulus.specs.Stimuli.{IsFormed}
 use Rattle.stimulus.specs.Rows.{last_set}
-use Rattle.circuit_run.specs.Traces.{input_number, integer_given, integer_set, inputs_in}
-use Rattle.circuit_run.specs.NetRuns.{given_in, given_in_from, inputs_from, integer_set_or}
+use Rattle.circuit_run.specs.Traces.{input_number, integer_given, integer_set}
+use Rattle.circuit_run.specs.NetRuns.{given_in_from, inputs_from, integer_set_or}
 use Rattle.circuit_run.proofs.Lists.{zip_left}
 use Rattle.circuit_run.proofs.Matching.{inputs_match}
 use Rattle.circuit_run.proofs.Fed.{input_at, inputs_in_range}

@@ -1,5 +1,5 @@
 -- There is one text of a resumed run, one of a state that is saved, and one first fault of a text that is no state.
-use Rattle.std.proofs.Common.{◌≡◌, ℕ, ◌+◌, List, ◌++◌, map, ℤ, Option, Some, None, refl, sym, ap, ap₂, ◌∙◌, subst}
+use Rattle.std.proofs.Common.{◌≡◌, ℕ, ◌+◌, List, ◌++◌, map, ℤ, Option, refl, sym, ap, ap₂, ◌∙◌, subst}
 use Rattle.std.specs.List.{flat_map, enumerate_from}
 use Rattle.fault_order.proofs.Ordering.{one_first}
 use Rattle.fault_order.specs.First.{IsFirst}
@@ -24,7 +24,7 @@ use Rattle.snapshot_text.specs.Snapshots.{values_of}
 use Rattle.snapshot_text.specs.Faults.{IsFault, place_of, rank_of}
 use Rattle.snapshot_text.specs.Ranks.{one_each}
 use Rattle.snapshot_text.proofs.Texts.{state_once}
-use Rattle.state_texts.specs.Held.{IsHeld, IsStateText, IsReadAs, Begins, anew, from_text, IsFirstStateFault}
+use Rattle.state_texts.specs.Held.{IsStateText, IsReadAs, Begins, anew, from_text, IsFirstStateFault}
 use Rattle.state_texts.specs.Texts.{all_inputs_from, Reaches, IsResumedText, IsSavedText}
 use Rattle.state_texts.proofs.Sound.{IsSound, its_net_serves}
 use Rattle.state_texts.proofs.Runs.{reached_same}

@@ -1,8 +1,8 @@
 -- Runs from states that are the same lead to states that are the same; and a run is its first cycles, and then the others.
-use Rattle.std.proofs.Common.{◌≡◌, ℕ, suc, List, [], ◌∷◌, ◌++◌, length, ℤ, refl, sym, ap, ◌∙◌}
+use Rattle.std.proofs.Common.{◌≡◌, suc, List, [], ◌∷◌, ◌++◌, length, ℤ, refl, sym, ap, ◌∙◌}
 use Rattle.fir_meaning.specs.Components.{Design, FlatLeaf, HasBundles}
 use Rattle.fir_meaning.specs.Loops.{HasNoLoop, HasLeaves, TakesLeaves}
-use Rattle.fir_meaning.specs.States.{State, SameState, Inputs, Trace, WatchedTrace, ended, cycle, row_of, watched_leaves, next}
+use Rattle.fir_meaning.specs.States.{State, SameState, Inputs, Trace, ended, cycle, row_of, watched_leaves, next}
 use Rattle.fir_meaning.proofs.Settling.{settled_same}
 use Rattle.fir_meaning.proofs.Nexts.{next_same}
 use Rattle.state_texts.specs.Texts.{Reaches, there, onward}

@@ -1,5 +1,5 @@
 -- States of a circuit are the same where those of its nets agree, number by number.
-use Rattle.std.proofs.Common.{◌≡◌, ◌≢◌, ℕ, ◌==◌, ◌<◌, ◌&&◌, not, Bool, true, false, List, [], ◌∷◌, length, map, Some, None, option_and_then, ℤ, refl, sym, ap, ap₂, ◌∙◌, subst, arith, true≢false, slice_get}
+use Rattle.std.proofs.Common.{◌≡◌, ◌≢◌, ℕ, ◌==◌, ◌<◌, ◌&&◌, not, Bool, true, false, List, [], ◌∷◌, length, map, Some, None, option_and_then, refl, sym, ap, ap₂, ◌∙◌, subst, arith, true≢false, slice_get}
 use Rattle.std.specs.Prelude.{Contains}
 use Rattle.std.proofs.lemmas.Grind.{common_steps}
 use Rattle.fir_types.specs.declared.fir_type.FirType.{FirType}
@@ -15,7 +15,6 @@ use Rattle.fir_meaning.specs.Elements.{IsElement}
 use Rattle.fir_meaning.specs.States.{State, SameState, Stands, is_register}
 use Rattle.ground_net.specs.declared.net.Leaf.{Leaf}
 use Rattle.ground_net.specs.declared.net.Net.{Net}
-use Rattle.ground_net.specs.declared.net.NetMemory.{NetMemory}
 use Rattle.ground_net.specs.declared.net.NetRegister.{NetRegister}
 use Rattle.ground_net.specs.declared.net.Role.TheVariants as role
 use Rattle.net_meaning.specs.Cycles.{NetState, Capture, captures}
@@ -23,7 +22,7 @@ use Rattle.net_meaning.specs.Nets.{IsNet, HasRole}
 use Rattle.net_of_circuit.specs.FlatOrder.{Placed, Standing, InFlatOrder, all_leaves, all_memories, memory_in, ListsLeaves}
 use Rattle.net_of_circuit.specs.NetOf.{Held, Kept, Given, Without_value, Driven, part_of, part_of_role, is_input_of_main, is_late_read, MatchingState, IsNetWith, read_field}
 use Rattle.net_laws.specs.Typed.{IsTyped}
-use Rattle.net_laws.proofs.Numbers.{some_same, none_some, below_length}
+use Rattle.net_laws.proofs.Numbers.{below_length}
 use Rattle.net_laws.proofs.Lists.{in_list, place_of, map_at, from_map_at}
 use Rattle.net_laws.proofs.Seen.{part_is}
 use Rattle.net_laws.proofs.Standing.{own_there, placed_at}

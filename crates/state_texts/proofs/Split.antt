@@ -1,22 +1,20 @@
 -- A run of a stimulus is that of its first cycles, and then that of the others, from the state that was saved behind the first ones.
-use Rattle.std.proofs.Common.{◌≡◌, ℕ, suc, ◌+◌, ◌<◌, ◌≤◌, ◌^◌, List, [], ◌∷◌, ◌++◌, length, ℤ, Option, Some, None, refl, sym, ap, ap₂, ◌∙◌, subst, arith, append_assoc}
+use Rattle.std.proofs.Common.{◌≡◌, ℕ, suc, ◌+◌, ◌<◌, ◌≤◌, ◌^◌, List, [], ◌∷◌, ◌++◌, length, Option, Some, refl, sym, ap, ap₂, ◌∙◌, subst, arith, append_assoc}
 use Rattle.std.specs.List.{flat_map, enumerate_from, AllZip}
 use Rattle.std.proofs.lemmas.Grind.{flat_map-append}
 use Rattle.bit_words.specs.declared.value.Value.{Value}
 use Rattle.fir_tree.specs.LeafNames.{Texts}
 use Rattle.fir_meaning.specs.Components.{Design}
-use Rattle.fir_meaning.specs.States.{State, SameState, Inputs, Trace}
+use Rattle.fir_meaning.specs.States.{State, SameState, Trace}
 use Rattle.fir_meaning.proofs.Nexts.{rows_same}
 use Rattle.ground_net.specs.declared.net.Ports.{Ports}
-use Rattle.ground_net.specs.declared.net.PortLeaf.{PortLeaf}
-use Rattle.ground_net.specs.Watching.{AreValuesOf, inputs}
+use Rattle.ground_net.specs.Watching.{AreValuesOf}
 use Rattle.stimulus.specs.declared.stimulus.Stimulus.{Stimulus}
 use Rattle.stimulus.specs.Stimuli.{IsFormed}
-use Rattle.stimulus.specs.Rows.{zero_of}
 use Rattle.stimulus_parts.specs.Parts.{last_row, first_part, second_part}
 use Rattle.stimulus_parts.proofs.Formed.{first_formed, row_values}
 use Rattle.trace_print.specs.Trace.{header_of}
-use Rattle.circuit_run.specs.Ports.{PortPart, IsPortLeaf, given_parts, ArePortsOf}
+use Rattle.circuit_run.specs.Ports.{IsPortLeaf, given_parts, ArePortsOf}
 use Rattle.circuit_run.specs.Traces.{watched_names, line_of}
 use Rattle.circuit_run.proofs.Lists.{enumerate_split}
 use Rattle.circuit_run.proofs.Once.{ports_once}

@@ -1,6 +1,6 @@
 -- Each state of the net of a circuit is one of the circuit.
 use Rattle.std.proofs.Common.{◌≡◌, ℕ, zero, suc, ◌==◌, ◌<◌, ◌&&◌, Bool, true, List, [], ◌∷◌, length, Option, Some, None, option_map, option_and_then, ℤ, pos, refl, sym, ap, ap₂, ◌∙◌, subst, arith, slice_get}
-use Rattle.std.specs.Prelude.{filter_map, position}
+use Rattle.std.specs.Prelude.{position}
 use Rattle.std.specs.List.{cons_option}
 use Rattle.std.proofs.lemmas.Grind.{common_steps}
 use Rattle.fir_types.specs.declared.fir_type.FirType.{FirType}
@@ -10,25 +10,24 @@ use Rattle.fir_types.specs.declared.leaf.PathStep.TheVariants as step
 use Rattle.fir_types.specs.declared.memory.Memory.{Memory}
 use Rattle.fir_types.specs.Leaves.{leaves}
 use Rattle.fir_tree.specs.LeafNames.{Texts}
-use Rattle.fir_meaning.specs.Components.{Design, TypedModule, Component, FlatLeaf, Sort, An_input, An_output, A_wire, A_register, A_reset_register, A_memory, An_instance, A_node, module_at, module_named, module_within, component_named}
+use Rattle.fir_meaning.specs.Components.{Design, TypedModule, Component, FlatLeaf, Sort, An_input, An_output, A_wire, A_register, A_reset_register, A_memory, An_instance, A_node, module_at, module_within, component_named}
 use Rattle.fir_meaning.specs.Drives.{same_way}
 use Rattle.fir_meaning.specs.MemoryPorts.{MemoryPort, port_named}
 use Rattle.fir_meaning.specs.States.{State, located}
 use Rattle.ground_net.specs.declared.net.Leaf.{Leaf}
 use Rattle.ground_net.specs.declared.net.Net.{Net}
-use Rattle.ground_net.specs.declared.net.NetMemory.{NetMemory}
 use Rattle.ground_net.specs.declared.net.Role.{Role}
 use Rattle.ground_net.specs.declared.net.Role.TheVariants as role
 use Rattle.net_meaning.specs.Cycles.{NetState}
 use Rattle.net_meaning.specs.Nets.{HasRole}
 use Rattle.net_of_circuit.specs.FlatOrder.{Placed, Standing, all_leaves, all_memories, memory_in, flat_of, number_in, same_path}
-use Rattle.net_of_circuit.specs.NetOf.{IsMemoryOf, read_field}
+use Rattle.net_of_circuit.specs.NetOf.{read_field}
 use Rattle.net_laws.specs.Serves.{Serves, Matches}
 use Rattle.net_laws.proofs.Numbers.{some_same, none_some, below_length, number_is, position_at, way_is, flat_is, flat_itself}
 use Rattle.net_laws.proofs.Once.{entries_once}
 use Rattle.circuit_run.proofs.Lists.{get_item, filter_map_from}
 use Rattle.state_texts.specs.Apart.{KeepsApart}
-use Rattle.state_texts.proofs.Captures.{Shows, shown_by}
+use Rattle.state_texts.proofs.Captures.{shown_by}
 
 -- Lists
 
