@@ -52,6 +52,17 @@ holds_both (leaf ∷ leaves) (v ∷ row) cells vs a h = (
 values_hold : (net : Net) → IsNet net → (t : NetState) (snapshot : Snapshot) → HoldsState net (inputs net) t snapshot → AllZip Holds (cells_of net (inputs net)) (values_of net t snapshot.inputs)
 values_hold net well t snapshot h = holds_both (inputs net) snapshot.inputs (state_cells net) (integers_of_state net t) h.inputs (state_holds net well t h.within)
 
+-- The text of a state is read as that state, where its number of cycles may be read.
+pub reads : (texts : Texts) (design : Design) (s : State) (snapshot : Snapshot) (text : List ℕ) → snapshot.cycle ≤ most_cycles → IsStateText texts design s snapshot text → IsReadAs texts design text s snapshot
+reads texts design s snapshot text few a =
+    let net = a.held.net in
+    let cells : List Cell = cells_of net (inputs net) in
+    let values : List ℤ = values_of net a.held.state snapshot.inputs in
+    record {
+      held = a.held;
+      read = subst (λ bytes. IsState cells bytes snapshot.cycle values) (sym a.is) (state_read cells snapshot.cycle values few (values_hold net a.held.of.well_formed a.held.state snapshot a.held.holds));
+    }
+
 module _ (texts : Texts) (design : Design) (sound : IsSound texts design) where
   -- What is read of the text of a state is that state.
   pub read_back : (s s' : State) (snapshot snapshot' : Snapshot) (text : List ℕ) → snapshot.cycle < 10 ^ 64 → IsStateText texts design s snapshot text → IsReadAs texts design text s' snapshot'
@@ -66,5 +77,4 @@ module _ (texts : Texts) (design : Design) (sound : IsSound texts design) where
       subst (λ bytes. IsState cells bytes snapshot'.cycle others) a.is (subst (λ cs. IsState cs text snapshot'.cycle others) one b.read) in
       let cycle : snapshot.cycle ≡ snapshot'.cycle = cycles_back cells snapshot.cycle snapshot'.cycle values others small again in
       let few : snapshot.cycle ≤ most_cycles = subst (λ n. n ≤ most_cycles) (sym cycle) again.few in
-      let own : IsState cells text snapshot.cycle values = subst (λ bytes. IsState cells bytes snapshot.cycle values) (sym a.is) (state_read cells snapshot.cycle values few (values_hold net a.held.of.well_formed a.held.state snapshot a.held.holds)) in
-      read_once texts design sound text text s s' snapshot snapshot' refl (record { held = a.held; read = own }) b
+      read_once texts design sound text text s s' snapshot snapshot' refl (reads texts design s snapshot text few a) b

@@ -29,7 +29,7 @@ use Rattle.state_texts.proofs.TwoNets.{row_long, its_ports, ports_of}
 use Rattle.state_texts.proofs.Once.{SameStart, begins_once, resumed_rows}
 use Rattle.state_texts.proofs.ReadBack.{read_back}
 
-read_of : {texts : Texts} {design : Design} {text : List ℕ} {s : State} {snapshot : Snapshot} → Begins texts design (Some text) s snapshot → IsReadAs texts design text s snapshot
+pub read_of : {texts : Texts} {design : Design} {text : List ℕ} {s : State} {snapshot : Snapshot} → Begins texts design (Some text) s snapshot → IsReadAs texts design text s snapshot
 read_of (from_text text s snapshot read) = read
 
 pub held_of : {texts : Texts} {design : Design} {begin : Option (List ℕ)} {s : State} {snapshot : Snapshot} → Begins texts design begin s snapshot → IsHeld texts design s snapshot

@@ -10,7 +10,7 @@ ghost use Rattle.fir_tree.specs.declared.scope.Fitted.{Fitted as FittedCircuit};
 ghost use Rattle.fir_grammar.specs.Grammar.{IsCircuit};
 ghost use Rattle.fir_meaning.specs.Components.{Design, design_of};
 ghost use Rattle.fir_meaning.specs.Loops.{HasNoLoop};
-ghost use Rattle.fir_meaning.specs.States.{State};
+ghost use Rattle.fir_meaning.specs.States.{State, SameState};
 ghost use Rattle.ground_net.specs.declared.net.Net.{Net as TheNet};
 ghost use Rattle.ground_net.specs.declared.net.Ports.{Ports as ThePorts};
 ghost use Rattle.circuit_laws.specs.WellFormed.{IsWellFormed};
@@ -24,7 +24,8 @@ ghost use Rattle.circuit_run.specs.Ports.{ArePortsOf};
 ghost use Rattle.circuit_run.specs.Traces.{watched_names, IsTraceText};
 ghost use Rattle.snapshot_text.specs.declared.fault.StateFault.{StateFault as TheFault};
 ghost use Rattle.snapshot_text.specs.declared.snapshot.Snapshot.{Snapshot as TheSnapshot};
-ghost use Rattle.state_texts.specs.Held.{IsReadAs, IsFirstStateFault};
+ghost use Rattle.snapshot_text.specs.Texts.{most_cycles};
+ghost use Rattle.state_texts.specs.Held.{IsStateText, IsReadAs, IsFirstStateFault};
 ghost use Rattle.state_texts.specs.Texts.{IsResumedText, IsSavedText};
 
 /// A well formed circuit without a loop has at most one text of a run that goes on from where it begins, under a stimulus.
@@ -37,6 +38,15 @@ pub fn resumed_texts_are_one()
 pub fn saved_texts_are_one()
     ensures { (texts : Texts) (fitted : FittedCircuit) → IsWellFormed fitted → HasNoLoop (design_of fitted) → (stimulus : TheStimulus) (begin : Option (List ℕ)) (bytes other : List ℕ)
         → IsSavedText texts (design_of fitted) stimulus begin bytes → IsSavedText texts (design_of fitted) stimulus begin other → bytes ≡ other }
+{}
+
+/// The text of a state is read as that state, where its number of cycles may be read; and a text is read as one state, with one number of
+/// cycles and one row of inputs.
+pub fn state_texts_are_read_back()
+    ensures read { (texts : Texts) (design : Design) (s : State) (snapshot : TheSnapshot) (text : List ℕ) → snapshot.cycle ≤ most_cycles → IsStateText texts design s snapshot text → IsReadAs texts design text s snapshot }
+    ensures only { (texts : Texts) (fitted : FittedCircuit) → IsWellFormed fitted → HasNoLoop (design_of fitted) → (text : List ℕ) (s t : State) (snapshot other : TheSnapshot)
+        → IsReadAs texts (design_of fitted) text s snapshot → IsReadAs texts (design_of fitted) text t other
+        → SameState (design_of fitted) s t × (snapshot.cycle ≡ other.cycle) × (snapshot.inputs ≡ other.inputs) }
 {}
 
 /// A text has at most one first fault as a state of such a circuit.
