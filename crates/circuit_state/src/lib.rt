@@ -1,0 +1,2 @@
+//! A run that goes on from a state.
+#![tactic(auto)]
