@@ -6,9 +6,10 @@ usage: cuts.py PROGRAM [FIRSIM], where PROGRAM is firsim_bench, or `-` for the s
 The time goes with the sum of the cones: those of a ring and of a mesh are as large at twice the size, so that the ratio is 2;
 those of a chain are twice as large, so that it is 4. With one part no cone is walked by itself, and the ratio is 2 for each.
 
-In the second table the time of `check` on the same text is taken off, so that what is left is to order the net, to cut it and to write the
-listing.
+In the second table times are of the processor, and that of `check` on the same text is taken off, so that what is left is to order the net, to
+cut it and to write the listing.
 """
+import resource
 import subprocess
 import sys
 import tempfile
@@ -69,13 +70,19 @@ CIRCUITS = [
 ]
 
 
-def best_seconds(tries, command, last_words):
-    """The least time of a command that must end with these words."""
+def spent():
+    """The processor's time of the commands so far."""
+    usage = resource.getrusage(resource.RUSAGE_CHILDREN)
+    return usage.ru_utime + usage.ru_stime
+
+
+def best_seconds(clock, tries, command, last_words):
+    """The least time by a clock of a command that must end with these words."""
     best = None
     for _ in range(tries):
-        began = time.perf_counter()
+        began = clock()
         written = subprocess.run(command, stdout=subprocess.PIPE, check=True).stdout
-        took = time.perf_counter() - began
+        took = clock() - began
         last = written.decode().splitlines()[-1].split()
         assert last[:len(last_words)] == last_words, written[-200:]
         best = took if best is None else min(best, took)
@@ -86,7 +93,7 @@ def shapes(program):
     print(f"{'cut of':28} {'registers':>9} {'parts':>5} {'ms':>8} {'twice ms':>9} {'ratio':>6}")
     for shape, count, parts, meaning in SHAPES:
         start, small, large = (
-            best_seconds(7, [program, "cuts", shape, str(n), str(parts)], ["needed", str(n)]) for n in (1, count, 2 * count)
+            best_seconds(time.perf_counter, 7, [program, "cuts", shape, str(n), str(parts)], ["needed", str(n)]) for n in (1, count, 2 * count)
         )
         print(f"{meaning:28} {count:9,} {parts:5} {(small - start) * 1000:8.1f} {(large - start) * 1000:9.1f} {(large - start) / (small - start):6.1f}")
 
@@ -97,10 +104,10 @@ def circuits(firsim):
         path = Path(folder) / "circuit.fir"
         for meaning, text, needed in CIRCUITS:
             path.write_text(text())
-            checked = best_seconds(2, [firsim, "check", str(path)], ["ok"])
+            checked = best_seconds(spent, 3, [firsim, "check", str(path)], ["ok"])
             row = f"{meaning:32} {needed:11,}"
             for workers in WORKERS:
-                took = best_seconds(2, [firsim, "cut", "--workers", str(workers), str(path)], ["needed", str(needed)])
+                took = best_seconds(spent, 3, [firsim, "cut", "--workers", str(workers), str(path)], ["needed", str(needed)])
                 row += f" {(took - checked) * 1000:9.0f}"
             print(row, flush=True)
 
