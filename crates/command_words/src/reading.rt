@@ -84,7 +84,6 @@ fn asked<'a>(alloc: Global, name: Name, matches: &ArgMatches<'a>) -> Result<Comm
             circuit,
             state: matches.get_str("state").unwrap_or(""),
         }),
-        Name::Log => Ok(Command::Log { workers, circuit }),
     }
 }
 
