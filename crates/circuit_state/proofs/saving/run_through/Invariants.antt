@@ -9,9 +9,9 @@ use Rattle.circuit_state.proofs.saving.run_through.Given as goal
 
 abbrev pub invariant-loop-first : goal.invariant-loop-first
 invariant-loop-first g l = record {
-  within : l.first ≤ g.F.Feed.many l.feed.now;
-  went : (ordered : Ordered) (watched : List ℕ) (parts : List CutPart) (s : NetState) → IsRun ordered watched parts s l.fn.run → g.F.Feed.feeds l.feed.now ordered.net
-      → (t : NetState) × Reaches ordered.net s (inputs_from (g.F.Feed.given l.feed.now) 0 l.first) t × IsRun ordered watched parts t l.run;
+  within : l.first ≤ g.F.Feed.many l.feed;
+  went : (ordered : Ordered) (watched : List ℕ) (parts : List CutPart) (s : NetState) → IsRun ordered watched parts s l.fn.run → g.F.Feed.feeds l.feed ordered.net
+      → (t : NetState) × Reaches ordered.net s (inputs_from (g.F.Feed.given l.feed) 0 l.first) t × IsRun ordered watched parts t l.run;
   cycle : l.run.cycle ≡ l.fn.run.cycle + l.first;
 }
 
