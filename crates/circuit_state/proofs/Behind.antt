@@ -1,6 +1,5 @@
 -- The snapshot behind a stimulus.
 use Rattle.std.proofs.Common.{◌≡◌, ◌+◌, ◌-◌, List, [], sym, subst, ◌∙◌}
-use Rattle.bit_words.specs.declared.value.Value.{Value}
 use Rattle.ground_net.specs.declared.net.CutPart.{CutPart}
 use Rattle.ground_net.specs.declared.net.Ordered.{Ordered}
 use Rattle.ground_net.specs.declared.net.Ports.{Ports}

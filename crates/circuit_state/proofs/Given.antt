@@ -1,5 +1,5 @@
 -- Rows that begin with any values match what the inputs are given.
-use Rattle.std.proofs.Common.{◌≡◌, ℕ, ◌+◌, ◌<◌, List, [], map, length, slice_get, Option, Some, None, option_map, refl, sym, ap, ap₂, ◌∙◌, subst, arith}
+use Rattle.std.proofs.Common.{◌≡◌, ℕ, ◌+◌, ◌<◌, List, [], length, slice_get, Option, Some, None, option_map, refl, sym, ap, ap₂, ◌∙◌, subst, arith}
 use Rattle.std.specs.List.{enumerate_from}
 use Rattle.std.proofs.lemmas.List.FromFn.{length-map-range_with_len, get_or-map-range_with_len}
 use Rattle.std.proofs.lemmas.Option.{slice_get-map, get_or_from_slice_get, slice_get_within}
@@ -91,4 +91,3 @@ module _ (net : Net) (well : IsNet net) (ports : Ports) (fed : ports.inputs ≡ 
         let is : row_from start stimulus.settings (first + c) ≡ row = sym (row_is start stimulus.settings first count c lt) ∙ get_or_from_slice_get (rows_from start stimulus.settings first count) c row [] e in
         subst (λ r. MatchInputs net r (given_behind start stimulus (first + c))) is (row_matches (first + c));
   }
-

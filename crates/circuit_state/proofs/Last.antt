@@ -1,5 +1,5 @@
 -- What the inputs have in the last cycle.
-use Rattle.std.proofs.Common.{◌≡◌, ℕ, zero, suc, ◌+◌, ◌-◌, ◌<◌, List, [], ◌∷◌, map, get_or, refl, sym, ap, ◌∙◌, subst, arith}
+use Rattle.std.proofs.Common.{◌≡◌, ℕ, ◌+◌, ◌-◌, ◌<◌, List, [], ◌∷◌, map, refl, sym, ap, ◌∙◌, arith}
 use Rattle.std.specs.Prelude.{All}
 use Rattle.std.specs.List.{enumerate_from}
 use Rattle.std.proofs.lemmas.List.Elements.{All-head}
@@ -8,7 +8,7 @@ use Rattle.ground_net.specs.declared.net.Ports.{Ports}
 use Rattle.stimulus.specs.declared.stimulus.Stimulus.{Stimulus}
 use Rattle.stimulus.specs.declared.stimulus.Setting.{Setting}
 use Rattle.stimulus.specs.Stimuli.{IsFormed}
-use Rattle.stimulus_parts.specs.Parts.{row_from, rows_from, last_row}
+use Rattle.stimulus_parts.specs.Parts.{row_from, last_row}
 
 same_items : (n : ℕ) (xs : List Value) → map (λ (e : ℕ × Value). e.1) (enumerate_from n xs) ≡ xs
 same_items n [] = refl
