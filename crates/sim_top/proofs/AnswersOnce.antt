@@ -41,7 +41,8 @@ use Rattle.sim_engine.proofs.Accepting.{fitted_well_formed}
 use Rattle.sim_engine.proofs.Once.{one_fault, no_fault, accepted_once}
 use Rattle.sim_engine.proofs.Solving.{same_at, same_declared, same_modules, flagged}
 use Rattle.sim_top.specs.Commands.{Job, Run, Check, Widths, Cut, Refine, Vcd, Question, Of_joined, Of_two, Of_made, asked_by}
-use Rattle.sim_top.specs.Texts.{IsPart, IsTaken, joined_limit, reads_all, stimulus_limit}
+use Rattle.sim_top.specs.Texts.{IsPart, IsTaken, reads_all, stimulus_limit}
+use Rattle.sim_top.specs.Commands.{joined_limit}
 use Rattle.sim_top.specs.Answers.{fault_bytes, stimulus_bytes, RefusesStimulus, stimulus_too_long, stimulus_faulty, TakesStimulus, Runs, stimulus_refused, written, JudgesTexts, refused, accepted, listed, divided, refined, ran, watch_unknown, dumped, Judges, joined_too_long, no_stimulus, circuit_too_long, taken, AnswersTo, of_joined, of_long_circuit, of_two, of_made, of_made_refused, Answers, no_command, answered}
 use Rattle.sim_top.proofs.Splitting.{part_once, run_has_line}
 

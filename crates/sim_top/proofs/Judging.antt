@@ -31,7 +31,8 @@ use Rattle.sim_top.specs.declared.judge.Reply.{Reply}
 use Rattle.sim_top.specs.declared.judge.Decision.{Decision}
 use Rattle.sim_top.specs.declared.judge.Decision.TheVariants as decision
 use Rattle.sim_top.specs.Commands.{Job, Run, Check, Widths, Cut, Refine, Vcd, job}
-use Rattle.sim_top.specs.Texts.{HasNone, IsPart, joined_limit, reads_all, stimulus_limit}
+use Rattle.sim_top.specs.Texts.{HasNone, IsPart, reads_all, stimulus_limit}
+use Rattle.sim_top.specs.Commands.{joined_limit}
 use Rattle.sim_top.specs.Answers.{fault_bytes, whole_bytes, stimulus_bytes, whole_stimulus_bytes, RefusesStimulus, stimulus_too_long, stimulus_faulty, TakesStimulus, Runs, stimulus_refused, written, JudgesTexts, refused, accepted, listed, divided, refined, ran, watch_unknown, dumped, Judges, no_stimulus, circuit_too_long, taken}
 use Rattle.sim_top.specs.Endings.{Gives, IsFor}
 

@@ -20,7 +20,7 @@ use Rattle.sim_top.specs.declared.judge.Reply.{Reply}
 use Rattle.sim_top.specs.declared.judge.Decision.{Decision}
 use Rattle.sim_top.specs.declared.judge.Decision.TheVariants as decision
 use Rattle.sim_top.specs.Commands.{Job, Run, Check, Widths, Cut, Refine, Vcd, Question, Of_joined, Of_two, Of_made, asked_by, NeedsFor, the_joined, the_circuit, the_stimulus, Needs}
-use Rattle.sim_top.specs.Texts.{joined_limit}
+use Rattle.sim_top.specs.Commands.{joined_limit}
 use Rattle.sim_top.specs.Answers.{whole_bytes, RefusesStimulus, stimulus_too_long, stimulus_faulty, Runs, stimulus_refused, written, JudgesTexts, refused, accepted, listed, divided, refined, ran, watch_unknown, dumped, Judges, joined_too_long, no_stimulus, circuit_too_long, taken, AnswersTo, of_joined, of_long_circuit, of_two, of_made, of_made_refused, Answers, no_command, answered}
 use Rattle.sim_top.specs.Endings.{Ends, IsSaid, IsRun, IsFaultLine, of_circuit, of_whole, of_stimulus, of_whole_stimulus, IsReply, Gives, IsFor, IsReady, IsRunnable, IsDumpable, status_of}
 use Rattle.sim_top.proofs.AnswersOnce.{some_same, no_reading, answers_once}
