@@ -25,3 +25,4 @@ mod Memories
 mod Showing
 mod Circuits
 pub mod WellFormed
+pub mod Apart

@@ -213,13 +213,16 @@ element_first other (line.ReadLatency at n ∷ lines) o e = element_first other 
 element_first other (line.WriteLatency at n ∷ lines) o e = element_first other lines o (right_empty (line_faults (line.WriteLatency at n)) _ e)
 element_first other (line.ReadUnder at u ∷ lines) o e = element_first other lines o e
 
+pub element_once : (memory : Memory) → memory_faults memory ≡ [] → twice_in (element_of memory) ≡ []
+element_once memory e = element_first _ memory.lines empty_once (left_empty (flat_map line_faults memory.lines) _ e)
+
 pub memory_once : (memory : Memory) → memory_faults memory ≡ [] → twice_in (memory_of memory) ≡ []
 memory_once memory e =
     let element : FirType = element_of memory in
     let rest = right_empty (flat_map line_faults memory.lines) _ e in
     twice_of_bundle (memory_of memory) (port_fields element (depth_of memory) memory.lines) refl
     ∙ ap₂ (λ x y. x ++ y) (ports_second element (depth_of memory) [] memory.lines (left_empty (again_behind [] memory.lines) _ rest))
-    (ports_types element (depth_of memory) memory.lines (element_first _ memory.lines empty_once (left_empty (flat_map line_faults memory.lines) _ e)))
+    (ports_types element (depth_of memory) memory.lines (element_once memory e))
 
 -- Different ways
 

@@ -8,7 +8,7 @@ use Rattle.fitted_laws.proofs.WellFormed.{accepted_well_formed}
 use Rattle.sim_engine.specs.Stages.{IsFitted}
 use Rattle.sim_engine.proofs.Solving.{same_fault}
 
-accepted_circuit : (text : List ℕ) (fitted : Fitted) → IsFitted text fitted → IsAccepted fitted
+pub accepted_circuit : (text : List ℕ) (fitted : Fitted) → IsFitted text fitted → IsAccepted fitted
 accepted_circuit text fitted fits =
     let widthed = fits.widthed in
     let typed = widthed.sized.typed in

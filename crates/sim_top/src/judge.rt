@@ -16,9 +16,9 @@ ghost use Rattle.sim_top.specs.Commands.{AreInRange, IsShort, Told, joined_limit
 ghost use Rattle.sim_top.specs.Texts.{stimulus_limit, reads_all, HasNone, IsPart};
 ghost use Rattle.sim_top.specs.Answers.{fault_bytes, whole_bytes, stimulus_bytes, whole_stimulus_bytes, state_bytes, whole_state_bytes, RefusesStimulus, TakesStimulus, RefusesState, TakesState, JudgesTexts, Judges};
 ghost use Rattle.sim_top.specs.declared.judge.Reply.{Reply as TheReply};
-ghost use Rattle.sim_top.specs.Endings.{IsFaultLine, Gives, IsFor, IsRunnable, IsStart};
-ghost use Rattle.snapshot_text.specs.Faults as of_states;
-ghost use Rattle.state_texts.specs.Held.{IsStartOf, IsFirstStateFault};
+ghost use Rattle.sim_top.specs.Endings.{IsFaultLine, Gives, IsFor, IsRunnable};
+ghost use Rattle.snapshot_text.specs.Faults.{place_of as place_in_state};
+ghost use Rattle.state_texts.specs.Held.{IsStartOf};
 
 use crate::texts::{STIMULUS_LIMIT, WholeFault, split};
 use crate::words::{Command, StateText};
@@ -61,7 +61,7 @@ pub struct Reply {
 /// What the command answers to a joined text within its limit.
 pub fn judge(alloc: Global, command: Command<'_, '_>, text: &[u8]) -> Result<Decision, AllocError>
     requires within { length text.now ≤ joined_limit }
-    requires workers { AreInRange (job command) }
+    requires in_range { AreInRange (job command) }
     ensures judges { IfOk result (Gives (Judges (job command.entry) text.now)) }
     ensures fits { IfOk result (IsFor (job command.entry)) }
 {
@@ -75,7 +75,7 @@ pub fn judge(alloc: Global, command: Command<'_, '_>, text: &[u8]) -> Result<Dec
 fn judge_whole(alloc: Global, command: Command<'_, '_>, text: &[u8]) -> Result<Decision, AllocError>
     requires within { length text.now ≤ joined_limit }
     requires none { HasNone text.now }
-    requires workers { AreInRange (job command) }
+    requires in_range { AreInRange (job command) }
     ensures judges { IfOk result (Gives (Judges (job command.entry) text.now)) }
     ensures fits { IfOk result (IsFor (job command.entry)) }
 {
@@ -106,7 +106,7 @@ fn judge_part(
     circuit: &[u8],
     stimulus: &[u8],
 ) -> Result<Decision, AllocError>
-    requires workers { AreInRange (job command) }
+    requires in_range { AreInRange (job command) }
     ensures judges { IfOk result (λ d. (joined : List ℕ) → length joined ≤ joined_limit → IsPart (job command.entry) joined circuit.now stimulus.now → Gives (Judges (job command.entry) joined) d) }
     ensures fits { IfOk result (IsFor (job command.entry)) }
 {
@@ -125,7 +125,7 @@ pub fn judge_texts(
     stimulus: &[u8],
 ) -> Result<Decision, AllocError>
     requires within { length circuit.now ≤ circuit_limit }
-    requires workers { AreInRange (job command) }
+    requires in_range { AreInRange (job command) }
     ensures judges { IfOk result (Gives (JudgesTexts (job command.entry) circuit.now stimulus.now)) }
     ensures fits { IfOk result (IsFor (job command.entry)) }
 {
@@ -158,7 +158,7 @@ fn judge_built(
     stimulus: &[u8],
 ) -> Result<Decision, AllocError>
     requires built { (text : List ℕ) × IsBuilt text built }
-    requires workers { AreInRange (job command) }
+    requires in_range { AreInRange (job command) }
     ensures judges { IfOk result (λ d. (text : List ℕ) → IsBuilt text built → Gives (JudgesTexts (job command.entry) text stimulus.now) d) }
     ensures fits { IfOk result (IsFor (job command.entry)) }
 {
@@ -177,7 +177,7 @@ fn judge_built(
 /// What a command that doesn't run the circuit answers to one without a fault.
 fn answer(alloc: Global, command: Command<'_, '_>, built: Built) -> Result<Decision, AllocError>
     requires built { (text : List ℕ) × IsBuilt text built }
-    requires workers { AreInRange (job command) }
+    requires in_range { AreInRange (job command) }
     requires unrun { reads_all (job command) ≡ true }
     ensures judges { IfOk result (λ d. (text stimulus : List ℕ) → IsBuilt text built → Gives (JudgesTexts (job command.entry) text stimulus) d) }
     ensures fits { IfOk result (IsFor (job command.entry)) }
@@ -189,7 +189,7 @@ fn answer(alloc: Global, command: Command<'_, '_>, built: Built) -> Result<Decis
 /// What it says.
 fn reply_to(alloc: Global, command: Command<'_, '_>, built: &Built) -> Result<Reply, AllocError>
     requires built { (text : List ℕ) × IsBuilt text built.now }
-    requires workers { AreInRange (job command) }
+    requires in_range { AreInRange (job command) }
     requires unrun { reads_all (job command) ≡ true }
     ensures { IfOk result (λ r. (text stimulus : List ℕ) → IsBuilt text built.now → JudgesTexts (job command.entry) text stimulus r.status r.bytes.items) }
 {
@@ -337,7 +337,6 @@ fn take_start(
 ) -> Result<Result<Snapshot, Reply>, AllocError>
     requires built { (text : List ℕ) × IsBuilt text built.now }
     requires short { IsShort (option_map text_given begin) }
-    ensures start { IfOk result (λ taken. IfOk taken (IsStart built.now)) }
     ensures takes { IfOk result (λ taken. IfOk taken (λ start. (state : Optional (List ℕ)) × TakesState (option_map text_given begin.entry) state × IsStartOf built.now.ordered.net state start)) }
     ensures status { IfOk result (λ taken. IfErr taken (λ reply. reply.status ≡ 3)) }
     ensures refuses { IfOk result (λ taken. IfErr taken (λ reply. (circuit : List ℕ) → IsBuilt circuit built.now
@@ -364,7 +363,6 @@ fn take_state(
 ) -> Result<Result<Snapshot, Reply>, AllocError>
     requires built { (text : List ℕ) × IsBuilt text built.now }
     requires short { length text.now ≤ state_limit }
-    ensures start { IfOk result (λ taken. IfOk taken (IsStart built.now)) }
     ensures takes { IfOk result (λ taken. IfOk taken (IsStartOf built.now.ordered.net (Some text.now))) }
     ensures status { IfOk result (λ taken. IfErr taken (λ reply. reply.status ≡ 3)) }
     ensures refuses { IfOk result (λ taken. IfErr taken (λ reply. (circuit : List ℕ) → IsBuilt circuit built.now
@@ -470,7 +468,7 @@ fn refuse_long_stimulus(alloc: Global) -> Result<Reply, AllocError>
 
 /// The line of a fault of a state. Where memory was wanted there is none.
 fn refuse_state(alloc: Global, fault: StateFault) -> Result<Reply, AllocError>
-    ensures { IfOk result (λ r. (r.status ≡ 3) × ((there' : APlace) × (of_states.place_of fault ≡ Some there') × (r.bytes.items ≡ state_bytes fault there'))) }
+    ensures { IfOk result (λ r. (r.status ≡ 3) × ((there' : APlace) × (place_in_state fault ≡ Some there') × (r.bytes.items ≡ state_bytes fault there'))) }
 {
     let Some(place) = fault.place() else {
         return Err(AllocError);
