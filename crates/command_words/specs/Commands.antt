@@ -42,6 +42,12 @@ given_circuit_rule = record circuit_rule { required = true }
 abbrev pub stimulus_rule : Rule
 stimulus_rule = new_rule (codes "stimulus")
 
+abbrev pub state_rule : Rule
+state_rule = new_rule (codes "state")
+
+abbrev pub given_state_rule : Rule
+given_state_rule = record state_rule { required = true }
+
 abbrev pub leaf_rule : Rule
 leaf_rule = record (new_rule (codes "leaf")) { action = Some Append; range = Some (record { start_inclusive = 0; end_inclusive = usize_max }) }
 
@@ -61,6 +67,9 @@ app_named name.Cut = command_with (codes "cut") (workers_rule ∷ circuit_rule �
 app_named name.Make = command_with (codes "make") (workers_rule ∷ cycles_rule ∷ size_rule ∷ [])
 app_named name.Vcd = command_with (codes "vcd") (workers_rule ∷ given_circuit_rule ∷ leaf_rule ∷ [])
 app_named name.Refine = command_with (codes "refine") (workers_rule ∷ circuit_rule ∷ [])
+app_named name.Save = command_with (codes "save") (workers_rule ∷ given_circuit_rule ∷ state_rule ∷ [])
+app_named name.Resume = command_with (codes "resume") (workers_rule ∷ given_circuit_rule ∷ given_state_rule ∷ [])
+app_named name.Log = command_with (codes "log") (workers_rule ∷ circuit_rule ∷ [])
 
 -- clap's matches of a command line, whose first word is the command; none where clap refuses the other words
 abbrev pub matched : App → List Text → Option (List Row)
@@ -79,6 +88,9 @@ pub data Request : Type 0 where
   Make : (workers cycles size : ℕ) → Request
   Vcd : (workers : ℕ) (circuit : Text) (leaves : List Text) → Request
   Refine : (workers : ℕ) (circuit : Text) → Request
+  Save : (workers : ℕ) (circuit : Text) (state : Option Text) → Request
+  Resume : (workers : ℕ) (circuit state : Text) → Request
+  Log : (workers : ℕ) (circuit : Text) → Request
 
 -- the same of the code's value
 abbrev pub request_of : Command → Request
@@ -89,6 +101,9 @@ request_of (command.Cut workers circuit) = Cut workers circuit.now
 request_of (command.Make workers cycles size) = Make workers cycles size
 request_of (command.Vcd workers circuit leaves) = Vcd workers circuit.now (map (λ name. name.now) leaves.items)
 request_of (command.Refine workers circuit) = Refine workers circuit.now
+request_of (command.Save workers circuit state) = Save workers circuit.now (option_map (λ name. name.now) state)
+request_of (command.Resume workers circuit state) = Resume workers circuit.now state.now
+request_of (command.Log workers circuit) = Log workers circuit.now
 
 -- the number that a text has in decimal digits, behind a plus or none; and what stands for an argument that wasn't given
 abbrev pub number_or : ℕ → Option Text → ℕ
@@ -100,7 +115,8 @@ abbrev pub is_set : Option Text → Bool
 is_set None = false
 is_set (Some text) = bytes_eq text (codes "true")
 
--- The arguments of a command by its matches, with their defaults. `N` and the circuit of a dump need none, since clap asks for them.
+-- The arguments of a command by its matches, with their defaults. `N`, the circuit of `vcd`, `save` and `resume`, and the state of
+-- `resume` need none, since clap asks for them.
 abbrev pub workers_in : List Row → ℕ
 workers_in rows = number_or 1 (one_of (codes "workers") rows)
 
@@ -116,6 +132,12 @@ circuit_in rows = unwrap_or (first_of (codes "circuit") rows) (codes "-")
 abbrev pub stimulus_in : List Row → Option Text
 stimulus_in rows = first_of (codes "stimulus") rows
 
+abbrev pub state_in : List Row → Option Text
+state_in rows = first_of (codes "state") rows
+
+abbrev pub given_state_in : List Row → Text
+given_state_in rows = unwrap_or (state_in rows) []
+
 abbrev pub refined_in : List Row → Bool
 refined_in rows = is_set (one_of (codes "refine") rows)
 
@@ -130,6 +152,9 @@ request_by name.Cut rows = Cut (workers_in rows) (circuit_in rows)
 request_by name.Make rows = Make (workers_in rows) (cycles_in rows) (size_in rows)
 request_by name.Vcd rows = Vcd (workers_in rows) (circuit_in rows) (leaves_in rows)
 request_by name.Refine rows = Refine (workers_in rows) (circuit_in rows)
+request_by name.Save rows = Save (workers_in rows) (circuit_in rows) (state_in rows)
+request_by name.Resume rows = Resume (workers_in rows) (circuit_in rows) (given_state_in rows)
+request_by name.Log rows = Log (workers_in rows) (circuit_in rows)
 
 -- the command that a word names
 abbrev pub name_of : Text → Option Name
@@ -141,7 +166,10 @@ name_of word =
     else (if bytes_eq word (codes "make") then Some name.Make
     else (if bytes_eq word (codes "vcd") then Some name.Vcd
     else (if bytes_eq word (codes "refine") then Some name.Refine
-    else None))))))
+    else (if bytes_eq word (codes "save") then Some name.Save
+    else (if bytes_eq word (codes "resume") then Some name.Resume
+    else (if bytes_eq word (codes "log") then Some name.Log
+    else None)))))))))
 
 -- the request of a command line of this command
 abbrev pub request_named : Option Name → List Text → Option Request
@@ -160,4 +188,7 @@ InRange (Cut workers circuit) = (1 ≤ workers) × (workers ≤ 64)
 InRange (Make workers cycles size) = (1 ≤ workers) × (workers ≤ 64) × (1 ≤ cycles) × (cycles ≤ 4096) × (1 ≤ size) × (size ≤ 4096)
 InRange (Vcd workers circuit leaves) = (1 ≤ workers) × (workers ≤ 64)
 InRange (Refine workers circuit) = (1 ≤ workers) × (workers ≤ 64)
+InRange (Save workers circuit state) = (1 ≤ workers) × (workers ≤ 64)
+InRange (Resume workers circuit state) = (1 ≤ workers) × (workers ≤ 64)
+InRange (Log workers circuit) = (1 ≤ workers) × (workers ≤ 64)
 InRange _ = ⊤

@@ -1,6 +1,6 @@
 //! The arguments that clap reads.
 
-ghost use Rattle.command_words.specs.Commands.{Follows, circuit_rule, cycles_rule, given_circuit_rule, leaf_rule, number_rule, refine_rule, size_rule, stimulus_rule, workers_rule};
+ghost use Rattle.command_words.specs.Commands.{Follows, circuit_rule, cycles_rule, given_circuit_rule, given_state_rule, leaf_rule, number_rule, refine_rule, size_rule, state_rule, stimulus_rule, workers_rule};
 
 use clap::builder::ValueParser;
 use clap::{Arg, ArgAction, value_parser};
@@ -64,6 +64,20 @@ pub fn stimulus<'a>(alloc: Global) -> Arg<'a>
     ensures { Follows stimulus_rule result }
 {
     Arg::new(alloc, "stimulus")
+}
+
+/// `STATE`.
+pub fn state<'a>(alloc: Global) -> Arg<'a>
+    ensures { Follows state_rule result }
+{
+    Arg::new(alloc, "state")
+}
+
+/// `STATE`, which must be given.
+pub fn given_state<'a>(alloc: Global) -> Arg<'a>
+    ensures { Follows given_state_rule result }
+{
+    state(alloc).required(true)
 }
 
 /// `LEAF ...`.

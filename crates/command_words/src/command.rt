@@ -1,6 +1,6 @@
 //! The commands.
 
-/// What a command line asks for. Names of texts and of leaves are lent by the words; `-` is the name of standard input.
+/// What a command line asks for. Names of texts, of states and of leaves are lent by the words; `-` is the name of standard input.
 #[derive(Drop)]
 pub enum Command<'a> {
     /// Runs a circuit under a stimulus, which stands behind the circuit in its text where no name is given.
@@ -45,6 +45,27 @@ pub enum Command<'a> {
     },
     /// Lists the partitions of a circuit's refined cut.
     Refine {
+        /// From 1 to 64.
+        workers: u32,
+        circuit: &'a str,
+    },
+    /// Runs a circuit under the stimulus behind it in its text, and writes the state after the last cycle. The run begins in the named
+    /// state, or in a circuit's first state where none is named.
+    Save {
+        /// From 1 to 64.
+        workers: u32,
+        circuit: &'a str,
+        state: Option<&'a str>,
+    },
+    /// Runs a circuit from a state on, under the stimulus behind it in its text.
+    Resume {
+        /// From 1 to 64.
+        workers: u32,
+        circuit: &'a str,
+        state: &'a str,
+    },
+    /// Writes what a circuit prints while it is run under the stimulus behind it in its text.
+    Log {
         /// From 1 to 64.
         workers: u32,
         circuit: &'a str,

@@ -4,7 +4,9 @@ ghost use Rattle.std.specs.Prelude.{◌≡◌, [], IfOk};
 ghost use Rattle.clap.specs.Words.{app_of};
 ghost use Rattle.command_words.specs.Commands.{app_named, command_with, name_of};
 
-use crate::arguments::{circuit, cycles, given_circuit, leaf, refine, size, stimulus, workers};
+use crate::arguments::{
+    circuit, cycles, given_circuit, given_state, leaf, refine, size, state, stimulus, workers,
+};
 use clap::Command;
 use std::alloc::{AllocError, Global};
 
@@ -18,6 +20,9 @@ pub enum Name {
     Make,
     Vcd,
     Refine,
+    Save,
+    Resume,
+    Log,
 }
 
 /// The command that a word names.
@@ -32,6 +37,9 @@ pub fn name_of(word: &str) -> Option<Name>
         "make" => Some(Name::Make),
         "vcd" => Some(Name::Vcd),
         "refine" => Some(Name::Refine),
+        "save" => Some(Name::Save),
+        "resume" => Some(Name::Resume),
+        "log" => Some(Name::Log),
         _ => None,
     }
 }
@@ -60,6 +68,15 @@ pub fn command<'a>(alloc: Global, name: Name) -> Result<Command<'a>, AllocError>
         Name::Refine => bare(alloc, "refine")
             .arg(workers(alloc))?
             .arg(circuit(alloc)),
+        Name::Save => bare(alloc, "save")
+            .arg(workers(alloc))?
+            .arg(given_circuit(alloc))?
+            .arg(state(alloc)),
+        Name::Resume => bare(alloc, "resume")
+            .arg(workers(alloc))?
+            .arg(given_circuit(alloc))?
+            .arg(given_state(alloc)),
+        Name::Log => bare(alloc, "log").arg(workers(alloc))?.arg(circuit(alloc)),
     }
 }
 

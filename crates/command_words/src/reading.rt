@@ -74,6 +74,17 @@ fn asked<'a>(alloc: Global, name: Name, matches: &ArgMatches<'a>) -> Result<Comm
             leaves: leaves(alloc, matches)?,
         }),
         Name::Refine => Ok(Command::Refine { workers, circuit }),
+        Name::Save => Ok(Command::Save {
+            workers,
+            circuit,
+            state: matches.get_str("state"),
+        }),
+        Name::Resume => Ok(Command::Resume {
+            workers,
+            circuit,
+            state: matches.get_str("state").unwrap_or(""),
+        }),
+        Name::Log => Ok(Command::Log { workers, circuit }),
     }
 }
 

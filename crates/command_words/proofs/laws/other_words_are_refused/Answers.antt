@@ -89,3 +89,71 @@ returns-clause-flag_value c = refl
 pub returns-clause-flag_elsewhere : goal.returns-clause-flag_elsewhere
 unfolding clap_on_literals
 returns-clause-flag_elsewhere c = refl
+
+pub returns-clause-nothing_saved : goal.returns-clause-nothing_saved
+unfolding clap_on_literals
+returns-clause-nothing_saved c = refl
+
+pub returns-clause-no_circuit_saved : goal.returns-clause-no_circuit_saved
+unfolding clap_on_literals
+returns-clause-no_circuit_saved c = refl
+
+pub returns-clause-three_saved : goal.returns-clause-three_saved
+unfolding clap_on_literals
+returns-clause-three_saved c = refl
+
+pub returns-clause-many_savers : goal.returns-clause-many_savers
+unfolding clap_on_literals
+returns-clause-many_savers c = refl
+
+pub returns-clause-savers_twice : goal.returns-clause-savers_twice
+unfolding clap_on_literals
+returns-clause-savers_twice c = refl
+
+pub returns-clause-nothing_resumed : goal.returns-clause-nothing_resumed
+unfolding clap_on_literals
+returns-clause-nothing_resumed c = refl
+
+pub returns-clause-no_state : goal.returns-clause-no_state
+unfolding clap_on_literals
+returns-clause-no_state c = refl
+
+pub returns-clause-no_state_behind : goal.returns-clause-no_state_behind
+unfolding clap_on_literals
+returns-clause-no_state_behind c = refl
+
+pub returns-clause-three_resumed : goal.returns-clause-three_resumed
+unfolding clap_on_literals
+returns-clause-three_resumed c = refl
+
+pub returns-clause-no_resumer : goal.returns-clause-no_resumer
+unfolding clap_on_literals
+returns-clause-no_resumer c = refl
+
+pub returns-clause-resumers_twice : goal.returns-clause-resumers_twice
+unfolding clap_on_literals
+returns-clause-resumers_twice c = refl
+
+pub returns-clause-two_logged : goal.returns-clause-two_logged
+unfolding clap_on_literals
+returns-clause-two_logged c = refl
+
+pub returns-clause-many_loggers : goal.returns-clause-many_loggers
+unfolding clap_on_literals
+returns-clause-many_loggers c = refl
+
+pub returns-clause-loggers_twice : goal.returns-clause-loggers_twice
+unfolding clap_on_literals
+returns-clause-loggers_twice c = refl
+
+pub returns-clause-flag_of_save : goal.returns-clause-flag_of_save
+unfolding clap_on_literals
+returns-clause-flag_of_save c = refl
+
+pub returns-clause-flag_of_resume : goal.returns-clause-flag_of_resume
+unfolding clap_on_literals
+returns-clause-flag_of_resume c = refl
+
+pub returns-clause-flag_of_log : goal.returns-clause-flag_of_log
+unfolding clap_on_literals
+returns-clause-flag_of_log c = refl
