@@ -66,7 +66,7 @@ struct Task {
 }
 
 /// Reads the texts that the words name from the shelf, writes the answer to the sink, and gives the status: 0 where the
-/// texts are accepted, 1 where the words are no command, 2 where the circuit has a fault, 3 where the stimulus has one,
+/// texts are accepted, 1 where the words are no command, 2 where the circuit has a fault, 3 where the stimulus or a state has one,
 /// 4 where the shelf failed, 5 where the sink failed, 6 where memory was wanted.
 ///
 /// A circuit is run by as many workers as the words say, in threads that `rt` starts, and each enters the gate before each evaluation.
