@@ -1,3 +1,4 @@
 -- what a reader must believe
 pub mod Held
 pub mod Texts
+pub mod Apart
