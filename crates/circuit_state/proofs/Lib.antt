@@ -1,0 +1,4 @@
+pub mod Given
+pub mod Reached
+pub mod Firsts
+pub mod Texts
