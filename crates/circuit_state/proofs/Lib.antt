@@ -1,4 +1,5 @@
 pub mod Given
 pub mod Reached
 pub mod Firsts
+pub mod Last
 pub mod Texts
