@@ -1,12 +1,12 @@
-use Rattle.std.proofs.Common.{sym, subst, ap, refl, ◌∙◌, arith}
+use Rattle.std.proofs.Common.{subst, ap, refl, ◌∙◌, arith}
 use Rattle.std.proofs.lemmas.Result.{err_from_is_err_and}
-use Rattle.ground_net.specs.Watching.{AreValuesOf}
 use Rattle.circuit_run.proofs.Writing.{nothing_written}
 use Rattle.crew_run.specs.RunTexts.{IsRunText}
 use Rattle.crew_run.specs.TraceTexts.{names_at, telling_of_names}
 use Rattle.crew_run.proofs.Counts.{ok_map}
 use Rattle.state_texts.proofs.Starts.{starts_are_begins}
 use Rattle.circuit_state.specs.Going.{all_given_behind}
+use Rattle.circuit_state.proofs.Behind.{feeds_from}
 use Rattle.circuit_state.proofs.Texts.{some_text, resumed_of_run}
 use Rattle.circuit_state.proofs.resuming.resume.Goals as goal
 
@@ -26,7 +26,7 @@ write_run-requires-clause-asks g c κs within =
       run.0.parts,
       holds.0,
       run.2,
-      record { feeds = record { well = c.requires.planned.net; inputs_are = c.requires.planned.fed; formed = c.requires.planned.formed }; values = subst (λ l. AreValuesOf l c.args.start.now.inputs) (sym c.requires.planned.fed) holds.1.inputs },
+      feeds_from plan.ordered.now plan.ports.now plan.stimulus.now c.requires.planned c.args.start.now holds.0 holds.1,
       record { each = λ t given rho settled. tt },
     )
 
@@ -87,7 +87,7 @@ returns-clause-lines g c = λ t holds.
     let given = all_given_behind start.inputs plan.stimulus.now in
     let run = c.in_ok-run.ensures.run t (record { within = holds.within; are = holds.words }) in
     let text = c.write_run.ensures.text plan.ordered.now plan.watch.now run.0.parts t run.2
-    (record { feeds = record { well = c.requires.planned.net; inputs_are = c.requires.planned.fed; formed = c.requires.planned.formed }; values = subst (λ l. AreValuesOf l start.inputs) (sym c.requires.planned.fed) holds.inputs }) in
+    (feeds_from plan.ordered.now plan.ports.now plan.stimulus.now c.requires.planned start t holds) in
     let names_are = c.in_ok-names.ensures ∙ ap (λ l. names_at l plan.watch.now) c.as_slice.ensures in (
       text.0,
       subst (λ n. IsRunText net plan.watch.now t given (telling_of_names n) start.cycle text.0) names_are (subst (λ k. IsRunText net plan.watch.now t given (telling_of_names c.in_ok-names.names) k text.0) c.in_ok-run.ensures.cycle text.1),
@@ -110,6 +110,6 @@ returns-clause-closed g c = λ t holds.
     let run = c.in_ok-run.ensures.run t (record { within = holds.within; are = holds.words }) in
     ok_map c.write_run.result
     (c.write_run.ensures.closed plan.ordered.now plan.watch.now run.0.parts t run.2
-    (record { feeds = record { well = c.requires.planned.net; inputs_are = c.requires.planned.fed; formed = c.requires.planned.formed }; values = subst (λ l. AreValuesOf l start.inputs) (sym c.requires.planned.fed) holds.inputs })
+    (feeds_from plan.ordered.now plan.ports.now plan.stimulus.now c.requires.planned start t holds)
     (λ row. refl))
     (λ tables are. record { cut = run.0; is_cut = run.1; epochs = are })
