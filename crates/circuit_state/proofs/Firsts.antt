@@ -1,6 +1,7 @@
 -- The words of the first state, line by line.
-use Rattle.std.proofs.Common.{◌≡◌, ℕ, ◌+◌, List, [], ◌∷◌, ◌++◌, length, replicate, map, refl, sym, ap, ◌∙◌, arith}
+use Rattle.std.proofs.Common.{◌≡◌, ℕ, ◌+◌, ◌<◌, ◌≤◌, cond, List, [], ◌∷◌, ◌++◌, length, replicate, map, refl, sym, ap, ◌∙◌, arith}
 use Rattle.std.proofs.lemmas.List.{length-append, length-replicate, replicate_more}
+use Rattle.std.proofs.lemmas.Bool.{lt-ltb, le-ltb}
 use Rattle.ground_net.specs.declared.net.Net.{Net}
 use Rattle.ground_net.specs.declared.net.PortLeaf.{PortLeaf}
 use Rattle.ground_net.specs.Watching.{AreValuesOf}
@@ -9,7 +10,8 @@ use Rattle.net_meaning.specs.Nets.{IsNet}
 use Rattle.net_meaning.specs.Words.{words_of, word_count, state_words}
 use Rattle.stimulus.specs.Rows.{zero_of}
 use Rattle.snapshot_text.specs.Cells.{Cell, state_cells}
-use Rattle.snapshot_text.specs.Steps.{count_cells, shape_of_cell}
+use Rattle.snapshot_text.specs.declared.cells.CellLine.{CellLine}
+use Rattle.snapshot_text.specs.Steps.{cell_of, count_cells, shape_of_cell}
 use Rattle.snapshot_text.proofs.Keeping.{state_long}
 use Rattle.crew_run.proofs.Firsts.{first_words_are}
 
@@ -66,3 +68,10 @@ all_zeros net well words ahead z none =
 pub zeros_fit : (leaves : List PortLeaf) → AreValuesOf leaves (map zero_of leaves)
 zeros_fit [] = tt
 zeros_fit (leaf ∷ leaves) = ((refl, refl), zeros_fit leaves)
+
+-- how many words a line has
+pub wide_line : (line : CellLine) → 64 < line.width → word_count (shape_of_cell (cell_of line)) ≡ 2
+wide_line line lt = ap (λ b. cond {A = ℕ} b 2 1) (lt-ltb 64 line.width lt)
+
+pub narrow_line : (line : CellLine) → line.width ≤ 64 → word_count (shape_of_cell (cell_of line)) ≡ 1
+narrow_line line le = ap (λ b. cond {A = ℕ} b 2 1) (le-ltb 64 line.width le)
