@@ -4,8 +4,7 @@ use Rattle.std.specs.List.{enumerate_from}
 use Rattle.std.proofs.lemmas.List.FromFn.{length-map-range_with_len, get_or-map-range_with_len}
 use Rattle.std.proofs.lemmas.Option.{slice_get-map, get_or_from_slice_get, slice_get_within}
 use Rattle.bit_words.specs.declared.value.Value.{Value}
-use Rattle.bit_words.specs.Values.{integer_of, InRange}
-use Rattle.cycle_values.proofs.Fittings.{value_in_range}
+use Rattle.bit_words.specs.Values.{integer_of}
 use Rattle.ground_net.specs.declared.net.Leaf.{Leaf}
 use Rattle.ground_net.specs.declared.net.Net.{Net}
 use Rattle.ground_net.specs.declared.net.Ports.{Ports}
@@ -13,7 +12,7 @@ use Rattle.ground_net.specs.declared.net.PortLeaf.{PortLeaf}
 use Rattle.ground_net.specs.declared.net.Role.TheVariants as role
 use Rattle.ground_net.specs.Watching.{inputs, port_leaf, AreValuesOf}
 use Rattle.net_meaning.specs.Shapes.{shaped}
-use Rattle.net_meaning.specs.Nets.{IsNet, AreInputs}
+use Rattle.net_meaning.specs.Nets.{IsNet}
 use Rattle.code_sequence.specs.FromNets.{MatchInputs}
 use Rattle.crew_workers.specs.Codes.{row_at}
 use Rattle.stimulus.specs.declared.stimulus.Stimulus.{Stimulus}
@@ -83,11 +82,6 @@ module _ (net : Net) (well : IsNet net) (ports : Ports) (fed : ports.inputs ≡ 
   row_matches cycle x n leaf there is =
       let h = has cycle x n leaf there is in
       (h.value, h.there, ap₂ shaped h.kind h.width, h.given)
-
-  pub inputs_in_range : (cycle : ℕ) → AreInputs net (given_behind start stimulus cycle)
-  inputs_in_range cycle x n leaf there is =
-      let h = has cycle x n leaf there is in
-      subst (InRange leaf.kind leaf.width) h.given (subst (λ w. InRange leaf.kind w (integer_of h.value)) h.width (subst (λ k. InRange k h.value.width (integer_of h.value)) h.kind (value_in_range h.value)))
 
   pub rows_match : (first count : ℕ) → MatchGiven net (λ c. given_behind start stimulus (first + c)) (rows_from start stimulus.settings first count)
   rows_match first count = record {

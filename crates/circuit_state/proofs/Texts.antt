@@ -1,7 +1,6 @@
 -- The texts of a run that goes on from a snapshot.
-use Rattle.std.proofs.Common.{◌≡◌, ℕ, List, [], ◌++◌, map, Option, refl, sym, subst, ap, ap₂, ◌∙◌, append-nil, arith}
+use Rattle.std.proofs.Common.{◌≡◌, ℕ, List, [], ◌++◌, map, Option, subst, ap, ap₂, ◌∙◌, append-nil, arith}
 use Rattle.std.specs.Prelude.{None}
-use Rattle.std.specs.List.{range_with_len}
 use Rattle.bit_words.specs.Values.{integer_of}
 use Rattle.fir_tree.specs.LeafNames.{Texts}
 use Rattle.fir_meaning.specs.Components.{Design}
@@ -9,7 +8,7 @@ use Rattle.fir_meaning.specs.States.{State}
 use Rattle.ground_net.specs.declared.net.Net.{Net}
 use Rattle.ground_net.specs.declared.net.Ports.{Ports}
 use Rattle.ground_net.specs.declared.net.Ordered.{Ordered}
-use Rattle.ground_net.specs.Watching.{inputs, AreValuesOf}
+use Rattle.ground_net.specs.Watching.{inputs}
 use Rattle.net_meaning.specs.Cycles.{NetState}
 use Rattle.net_of_circuit.specs.FlatOrder.{all_leaves}
 use Rattle.net_laws.specs.Runs.{Run, AreGiven}
@@ -29,8 +28,9 @@ use Rattle.crew_run.proofs.Progressing.{none_told, begun_text}
 use Rattle.crew_run.proofs.Traces.{told_all, lines_are, names_are}
 use Rattle.state_texts.specs.Held.{Begins}
 use Rattle.state_texts.specs.Texts.{all_inputs_from, IsResumedText, IsSavedText}
+use Rattle.state_texts.proofs.Inputs.{all_given_from}
 use Rattle.circuit_state.specs.Going.{given_behind, all_given_behind, IsTextBehind}
-use Rattle.circuit_state.proofs.Reached.{reaches, all_given}
+use Rattle.circuit_state.proofs.Reached.{reaches}
 
 -- There is such a text.
 pub some_text : (ordered : Ordered) (ports : Ports) (stimulus : Stimulus) (seen : List ℕ) → IsPlanned ordered ports stimulus → (t : NetState) (start : Snapshot)
@@ -47,8 +47,7 @@ module _ (texts : Texts) (design : Design) (ordered : Ordered) (ports : Ports) (
   net = ordered.net
 
   given_are : AreGiven (all_leaves serves.of.placed) net (all_inputs_from design start.inputs stimulus) (all_given_behind start.inputs stimulus)
-  given_are =
-      all_given texts design net serves ports planned.fed stimulus planned.formed start.inputs (subst (λ l. AreValuesOf l start.inputs) (sym planned.fed) holds.inputs) (range_with_len 0 stimulus.cycles)
+  given_are = all_given_from texts design net serves ports planned.fed stimulus planned.formed start.inputs holds.inputs
 
   -- The text of a run from this state is the trace of the circuit.
   pub resumed_of_run : (seen : List ℕ) → seen ≡ watch net → (bytes : List ℕ) → IsRunText net seen t (all_given_behind start.inputs stimulus) (trace_telling net seen) start.cycle bytes → IsResumedText texts design stimulus begin bytes

@@ -13,6 +13,7 @@ ghost use Rattle.circuit_run.specs.NetRuns.{IsPlanned, watch};
 ghost use Rattle.circuit_run.specs.declared.fault.RunFault.TheVariants.{WriteFault};
 ghost use Rattle.crew_run.specs.RunTexts.{IsRunText};
 ghost use Rattle.crew_run.specs.TraceTexts.{trace_telling};
+ghost use Rattle.state_texts.specs.Apart.{KeepsApart};
 ghost use Rattle.state_texts.specs.Held.{IsStartOf};
 ghost use Rattle.state_texts.specs.Texts.{IsResumedText};
 ghost use Rattle.circuit_state.specs.Going.{all_given_behind, AreTablesFrom};
@@ -53,7 +54,7 @@ pub fn resume<R: Threads + Wait + Sync, G: Gate + Sync, K: Sink>(
     requires few { plan.now.workers ≤ 64 }
     requires cycle { start.now.cycle ≤ 999999000000 }
     requires holds { (t : NetState) × HoldsState plan.now.ordered.now.net (inputs plan.now.ordered.now.net) t start.now }
-    ensures resumed { plan.now.watch.now ≡ watch plan.now.ordered.now.net → (texts : Texts) (design : Design) → Serves texts design plan.now.ordered.now.net → (begin : Optional (Listed ℕ)) → IsStartOf plan.now.ordered.now.net begin start.now
+    ensures resumed { plan.now.watch.now ≡ watch plan.now.ordered.now.net → (texts : Texts) (design : Design) → Serves texts design plan.now.ordered.now.net → KeepsApart design → (begin : Optional (Listed ℕ)) → IsStartOf plan.now.ordered.now.net begin start.now
         → (bytes : Listed ℕ) × IsResumedText texts design plan.now.stimulus.now begin bytes
         × (OnOk result (Appends (K.written sink.old) (K.written sink.new) bytes))
         × (OnErr result ((n : ℕ) × Appends (K.written sink.old) (K.written sink.new) (take n bytes))) }

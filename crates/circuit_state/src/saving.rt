@@ -15,6 +15,7 @@ ghost use Rattle.stimulus_parts.specs.Parts.{last_row};
 ghost use Rattle.circuit_run.specs.NetRuns.{IsPlanned, inputs_from};
 ghost use Rattle.crew_run.specs.Runs.{IsRun};
 ghost use Rattle.crew_run.specs.Epochs.{Reaches};
+ghost use Rattle.state_texts.specs.Apart.{KeepsApart};
 ghost use Rattle.state_texts.specs.Held.{IsStartOf};
 ghost use Rattle.state_texts.specs.Texts.{IsSavedText};
 ghost use Rattle.circuit_state.specs.Going.{FeedsFrom, IsTextBehind};
@@ -51,7 +52,7 @@ pub fn save<R: Threads + Wait + Sync, G: Gate + Sync>(
     requires few { plan.now.workers ≤ 64 }
     requires cycle { start.now.cycle ≤ 999999000000 }
     requires holds { (t : NetState) × HoldsState plan.now.ordered.now.net (inputs plan.now.ordered.now.net) t start.now }
-    ensures saved { (texts : Texts) (design : Design) → Serves texts design plan.now.ordered.now.net → (begin : Optional (Listed ℕ)) → IsStartOf plan.now.ordered.now.net begin start.now
+    ensures saved { (texts : Texts) (design : Design) → Serves texts design plan.now.ordered.now.net → KeepsApart design → (begin : Optional (Listed ℕ)) → IsStartOf plan.now.ordered.now.net begin start.now
         → IfOk result (λ text. IsSavedText texts design plan.now.stimulus.now begin text.items) }
     ensures kept { (t : NetState) → HoldsState plan.now.ordered.now.net (inputs plan.now.ordered.now.net) t start.now → IfOk result (λ text. IsTextBehind plan.now.ordered.now.net t start.now plan.now.stimulus.now text.items) }
 {

@@ -4,7 +4,7 @@ use Rattle.circuit_run.proofs.Writing.{nothing_written}
 use Rattle.crew_run.specs.RunTexts.{IsRunText}
 use Rattle.crew_run.specs.TraceTexts.{names_at, telling_of_names}
 use Rattle.crew_run.proofs.Counts.{ok_map}
-use Rattle.state_texts.proofs.Starts.{starts_are_begins}
+use Rattle.state_texts.proofs.Begun.{starts_are_begins}
 use Rattle.circuit_state.specs.Going.{all_given_behind}
 use Rattle.circuit_state.proofs.Behind.{feeds_from}
 use Rattle.circuit_state.proofs.Texts.{some_text, resumed_of_run}
@@ -38,11 +38,11 @@ write_run-requires-clause-numbers g c κs within =
     omega (arith, few, cycle, most)
 
 pub returns-in_err-names-clause-resumed : goal.returns-in_err-names-clause-resumed
-returns-in_err-names-clause-resumed g c = λ default texts design serves begin is.
+returns-in_err-names-clause-resumed g c = λ default texts design serves apart begin is.
     let plan = c.args.plan.now in
     let start = c.args.start.now in
     let p = err_from_is_err_and c.from_residual.result c.from_residual.ensures.1 in
-    let b = starts_are_begins texts design plan.ordered.now.net serves begin start is in
+    let b = starts_are_begins texts design plan.ordered.now.net serves apart begin start is in
     let some = some_text plan.ordered.now plan.ports.now plan.stimulus.now plan.watch.now c.requires.planned b.1 start in
     rw p.1 (
       some.0,
@@ -59,11 +59,11 @@ returns-in_err-names-clause-lines g c = λ t holds.
     rw p.1 (some.0, some.1, tt, (0, nothing_written (g.K.Sink.written c.args.sink.now)))
 
 pub returns-in_err-run-clause-resumed : goal.returns-in_err-run-clause-resumed
-returns-in_err-run-clause-resumed g c = λ default texts design serves begin is.
+returns-in_err-run-clause-resumed g c = λ default texts design serves apart begin is.
     let plan = c.args.plan.now in
     let start = c.args.start.now in
     let p = err_from_is_err_and c.from_residual-in_err-run.result c.from_residual-in_err-run.ensures.1 in
-    let b = starts_are_begins texts design plan.ordered.now.net serves begin start is in
+    let b = starts_are_begins texts design plan.ordered.now.net serves apart begin start is in
     let some = some_text plan.ordered.now plan.ports.now plan.stimulus.now plan.watch.now c.requires.planned b.1 start in
     rw p.1 (
       some.0,
@@ -96,10 +96,10 @@ returns-clause-lines g c = λ t holds.
     )
 
 pub returns-clause-resumed : goal.returns-clause-resumed
-returns-clause-resumed g c = λ default texts design serves begin is.
+returns-clause-resumed g c = λ default texts design serves apart begin is.
     let plan = c.args.plan.now in
     let start = c.args.start.now in
-    let b = starts_are_begins texts design plan.ordered.now.net serves begin start is in
+    let b = starts_are_begins texts design plan.ordered.now.net serves apart begin start is in
     let l = returns-clause-lines g c b.1 b.2 in
     (l.0, resumed_of_run texts design plan.ordered.now plan.ports.now plan.stimulus.now serves c.requires.planned begin start b.0 b.1 b.2 b.3 b.4 plan.watch.now default l.0 l.1, l.2, l.3)
 

@@ -3,7 +3,7 @@ use Rattle.std.proofs.lemmas.List.Elements.{All-nil}
 use Rattle.snapshot_text.specs.declared.snapshot.Snapshot.{Snapshot}
 use Rattle.snapshot_text.specs.Snapshots.{HoldsState, snapshot_text}
 use Rattle.crew_run.proofs.Counts.{ok_map}
-use Rattle.state_texts.proofs.Starts.{starts_are_begins}
+use Rattle.state_texts.proofs.Begun.{starts_are_begins}
 use Rattle.circuit_state.specs.Going.{IsBehind}
 use Rattle.circuit_state.proofs.Behind.{feeds_from, is_behind}
 use Rattle.circuit_state.proofs.Texts.{saved_of_run}
