@@ -1,0 +1,64 @@
+//! The trace of a run.
+
+ghost use Rattle.std.specs.Prelude.{◌≡◌, ◌<◌, ⊤, length, All, IfOk};
+ghost use Rattle.crew_run.specs.TraceTexts.{names_at, telling_of_names};
+
+use bit_words::{List, Row, Text};
+use crew_run::{Spot, Teller};
+use ground_net::Leaf;
+use std::alloc::{AllocError, Global};
+use trace_print::{header, trace_line};
+
+/// The trace of leaves of these names: their names, and then a line for each cycle with its number and their values.
+#[derive(Drop)]
+pub(crate) struct NamedTrace {
+    pub(crate) names: List<Text>,
+}
+
+impl Teller for NamedTrace {
+    ghost tells = { λ t. telling_of_names t.names };
+
+    ghost reads = { λ t row. ⊤ };
+
+    fn head(&self, alloc: Global) -> Result<Vec<u8>, AllocError> {
+        header(alloc, &self.names)
+    }
+
+    fn row(
+        &self,
+        alloc: Global,
+        cycle: u64,
+        before: Option<&Row>,
+        row: &Row,
+    ) -> Result<Vec<u8>, AllocError> {
+        let _ = before;
+        trace_line(alloc, cycle, row)
+    }
+
+    fn ends(&self, row: &Row) -> bool {
+        let _ = row;
+        false
+    }
+
+    fn foot(&self, alloc: Global, spot: &Spot) -> Result<Vec<u8>, AllocError> {
+        let _ = spot;
+        Ok(Vec::new(alloc))
+    }
+}
+
+/// The names of the leaves of these numbers.
+pub(crate) fn names_of(
+    alloc: Global,
+    leaves: &[Leaf],
+    watch: &[u32],
+) -> Result<List<Text>, AllocError>
+    requires { All (λ x. x < length leaves.now) watch.now }
+    ensures { IfOk result (λ names. names ≡ names_at leaves.now watch.now) }
+{
+    let mut names = List::new(alloc);
+    for number in watch {
+        let leaf = &leaves[*number as usize];
+        names.push(List::from_slice(alloc, leaf.name.as_slice())?)?;
+    }
+    Ok(names)
+}
