@@ -1,4 +1,4 @@
-"""Prints a table: the time of `check` for texts of several kinds against that of md5sum, and peak memory a byte of text.
+"""Prints a table: the time of `check` for texts of several kinds against that of md5sum, and peak memory, in all and a byte of text.
 
 usage: measure.py PROGRAM
 """
@@ -8,7 +8,6 @@ import sys
 import tempfile
 import time
 
-LIMIT = 1_048_576  # the greatest circuit in bytes
 HEAD = b"FIRRTL version 3.0.0\ncircuit M :\n  module M :\n"
 DIGITS = "0123456789abcdefghijklmnopqrstuvwxyz"
 
@@ -45,20 +44,41 @@ def wide(references, leaves):
     return b"FIRRTL version 3.0.0\ncircuit M:\n module M:\n" + "".join(lines).encode()
 
 
+def connects(size):
+    """As many connects of two names of one letter as fit, in one module."""
+    front = HEAD + b"  input c : UInt<1>\n  output o : UInt<1>\n"
+    return front + filled(b"  connect o,c\n", size - len(front))
+
+
+def annotated(size):
+    """Infos, and annotations before them, behind a module of nothing."""
+    half = size // 2
+    annotations = b"circuit M :%[[" + filled(b'{"class":"firrtl.transforms.NoDedupAnnotation"},', half) + b"]]\n  module M :\n"
+    text = b"FIRRTL version 3.0.0\n" + annotations
+    return text + filled(b"    skip @[GCD.scala 15:7, and so on up to a line of eighty bytes or some more 15:7]\n", size - len(text) - 200)
+
+
+MEGABYTE = 1_048_576
+# Each kind at 1, 4 and 16 MB.
+KINDS = {
+    "comments": lambda size: HEAD + filled(b"; a comment, and so on\n", size - len(HEAD)),
+    "infos and annotations": annotated,
+    "short connects": connects,
+}
 TEXTS = {
-    "comments and infos, 1 MB": filled(b"; a comment, and so on\n@[Chisel.scala 10:20]\n", LIMIT),
-    "dense statements, 0.25 MB": dense(LIMIT // 4),
-    "dense statements, 1 MB": dense(LIMIT - 200),
+    "dense statements, 0.25 MB": dense(MEGABYTE // 4),
+    "dense statements, 1 MB": dense(MEGABYTE - 200),
     "12,500 declarations and references": chain(12_500),
     "50,000 declarations and references": chain(50_000),
     "10,000 references to one bundle of 1,000 leaves": wide(10_000, 1_000),
-    "comments, 5 MB (too long, so only read)": filled(b"; a comment, and so on\n", 5_242_880),
+    "333,000 short connects": connects(333_000 * 14),
+    **{f"{kind}, {size} MB": make(size * MEGABYTE) for kind, make in KINDS.items() for size in (1, 4, 16)},
 }
 
 
 def best_seconds(command, path):
     best = None
-    for _ in range(5):
+    for _ in range(3):
         with open(path, "rb") as text:
             began = time.perf_counter()
             subprocess.run(command, stdin=text, stdout=subprocess.DEVNULL)
@@ -91,15 +111,15 @@ def peak_bytes(command, path):
 def main():
     check = [os.path.realpath(sys.argv[1]), "check"]
     base = peak_bytes(check, "/dev/null")
-    print(f"{'text':48} {'bytes':>9} {'check ms':>9} {'md5sum ms':>9} {'ratio':>7} {'memory a byte':>13}  answer")
+    print(f"{'text':48} {'bytes':>9} {'check ms':>9} {'md5sum ms':>9} {'ratio':>7} {'MB':>6} {'a byte':>7}  answer")
     with tempfile.TemporaryDirectory() as folder:
         for kind, text in TEXTS.items():
             path = os.path.join(folder, "text")
             with open(path, "wb") as file:
                 file.write(text)
             ours, theirs = best_seconds(check, path), best_seconds(["md5sum"], path)
-            memory = max(0, max(peak_bytes(check, path) for _ in range(3)) - base) / len(text)
-            print(f"{kind:48} {len(text):9} {ours * 1000:9.1f} {theirs * 1000:9.1f} {ours / theirs:7.1f} {memory:13.1f}  {answer(check, path)}")
+            peak = max(peak_bytes(check, path) for _ in range(3))
+            print(f"{kind:48} {len(text):9} {ours * 1000:9.1f} {theirs * 1000:9.1f} {ours / theirs:7.1f} {peak / 1e6:6.0f} {max(0, peak - base) / len(text):7.1f}  {answer(check, path)}")
 
 
 main()

@@ -1,5 +1,5 @@
 -- What references may name, step by step.
-use Rattle.std.proofs.Common.{◌≡◌, ℕ, zero, suc, ◌+◌, ◌==◌, Bool, true, false, ◌&&◌, ◌||◌, fold, Option, None, Some, subst, arith, append-nil, true≢false, List, [], ◌∷◌, ◌++◌, map, refl, sym, ap, ◌∙◌}
+use Rattle.std.proofs.Common.{◌≡◌, ℕ, zero, suc, ◌+◌, ◌==◌, Bool, true, false, ◌&&◌, ◌||◌, fold, Option, None, Some, ◌⊎◌, subst, arith, append-nil, true≢false, List, [], ◌∷◌, ◌++◌, map, refl, sym, ap, ◌∙◌}
 use Rattle.std.specs.Global.{Vec}
 use Rattle.std.specs.Prelude.{⊤}
 use Rattle.std.specs.List.{list_any, flat_map, range_with_len}
@@ -68,11 +68,11 @@ stays : (types : Scope) (suffixes : List Suffix) (region : Region) → (fold (λ
 stays types [] region = refl
 stays types (s ∷ suffixes) region = stays types suffixes (suffix_onward s types region) ∙ same_component s types region
 
-none_of : {A : Type 0} (p : A → Bool) (xs : List A) → ((x : A) → p x ≡ false) → list_any p xs ≡ false
+pub none_of : {A : Type 0} (p : A → Bool) (xs : List A) → ((x : A) → p x ≡ false) → list_any p xs ≡ false
 none_of p [] h = refl
 none_of p (x ∷ xs) h = ap (λ b. b || list_any p xs) (h x) ∙ none_of p xs h
 
-and_false : (b : Bool) → (b && false) ≡ false
+pub and_false : (b : Bool) → (b && false) ≡ false
 and_false true = refl
 and_false false = refl
 
@@ -124,5 +124,35 @@ any_behind component path leaf (w ∷ ways) = ap (λ b. is_behind component path
 pub region_is : (types : Scope) (e : Expr) (name : Name) (suffixes : List Suffix) → e.form ≡ form.Ref name suffixes → region_of types e ≡ Some (follow_all types name.id (map suffix_onward suffixes))
 region_is types e name suffixes is = ap (λ f. region_of_form types (out-Form f)) is ∙ ap (region_of_form types) (outs-Ref name suffixes)
 
-pub reach_none : (o : Option Region) (region : Region) → o ≡ Some region → leaves region.typ ≡ [] → Reaches o None
+pub reach_none : (o : Option Region) (region : Region) → o ≡ Some region → (leaves region.typ ≡ []) ⊎ (region.ways ≡ []) → Reaches o None
 reach_none o region e h = subst (λ x. Reaches x None) (sym e) h
+
+-- Where no way is left none comes back.
+
+abbrev EndsAll : Suffix → Type 0
+EndsAll s = (types : Scope) (region : Region) → region.ways ≡ [] → (suffix_onward s types region).ways ≡ []
+
+ends_at : (z : Suffix-F Form Suffix Expr)
+    → ((types : Scope) (region : Region) → region.ways ≡ [] → (of_suffix (map-Suffix Form Suffix Expr InScope Onward InScope (fold-Form InScope Onward InScope of_form of_suffix of_expr) suffix_onward mentions z) types region).ways ≡ [])
+    → EndsAll (roll-Suffix z)
+ends_at z h types region e = ap (λ f. (f types region).ways) (fold-roll-Suffix InScope Onward InScope of_form of_suffix of_expr z) ∙ h types region e
+
+none_behind : (ns : List ℕ) → flat_map (λ n. behind_each [] (step.Element n)) ns ≡ []
+none_behind [] = refl
+none_behind (n ∷ ns) = none_behind ns
+
+ends_case : (y : Suffix-F ((φ : Form) × FormStands φ) ((s : Suffix) × EndsAll s) ((e : Expr) × ExprStands e))
+    → EndsAll (roll-Suffix (map-Suffix _ _ _ Form Suffix Expr (λ e. e.0) (λ e. e.0) (λ e. e.0) y))
+ends_case (Suffix-F.Field name) = ends_at (Suffix-F.Field name) (λ types region e. ap (λ ways. behind_each ways (step.Field name.id)) e)
+ends_case (Suffix-F.At bracket place n) = ends_at (Suffix-F.At bracket place n) (λ types region e. ap (λ ways. behind_each ways (step.Element n)) e)
+ends_case (Suffix-F.Index bracket i) = ends_at (Suffix-F.Index bracket i.0) (λ types region e. ap (λ ways. elements_behind ways (vector_length region.typ)) e ∙ none_behind (range_with_len 0 (vector_length region.typ)))
+
+pub ends_stay : (s : Suffix) → EndsAll s
+ends_stay = ind-Suffix FormStands EndsAll ExprStands
+    (λ x y is. tt)
+    (λ x y is. subst (λ z. EndsAll (roll-Suffix z)) is (ends_case y))
+    (λ x y is. tt)
+
+-- an index of a vector of no element leads nowhere
+pub ends_here : (s : Suffix) (bracket : Place) (index : Expr) (types : Scope) (region : Region) → s ≡ suffix.Index bracket index → vector_length region.typ ≡ 0 → (suffix_onward s types region).ways ≡ []
+ends_here s bracket index types region e none = ways_index s bracket index types region e ∙ ap (elements_behind region.ways) none

@@ -1,10 +1,13 @@
 -- What is known of drivers behind a setting, and behind several.
-use Rattle.std.proofs.Common.{◌≡◌, ℕ, zero, suc, ◌+◌, ◌<◌, Bool, true, false, ◌||◌, List, [], ◌∷◌, map, zip, length, take, get_or, Option, Some, None, option_map, if◌then◌else◌, refl, sym, ap, ap₂, ◌∙◌, true≢false, arith, ◌≤◌, Bor}
+use Rattle.std.proofs.Common.{◌≡◌, inl, inr, ℕ, zero, suc, ◌+◌, ◌<◌, Bool, true, false, ◌&&◌, ◌||◌, List, [], ◌∷◌, ◌++◌, map, zip, length, take, get_or, Option, Some, None, option_map, if◌then◌else◌, refl, sym, ap, ap₂, ◌∙◌, true≢false, arith, ◌≤◌, Bor}
 use Rattle.std.specs.Prelude.{min}
 use Rattle.std.specs.Option.{option_copied}
 use Rattle.std.proofs.lemmas.List.{take_all, length-map}
 use Rattle.std.proofs.lemmas.Slice.Zip.{length-zip}
-use Rattle.std.specs.List.{list_any}
+use Rattle.std.specs.List.{list_any, flat_map}
+use Rattle.fir_types.specs.declared.leaf.PathStep.{PathStep}
+use Rattle.fir_meaning.specs.Drives.{same_leaf, is_turned}
+use Rattle.clock_check.proofs.Reaching.{none_of, and_false}
 use Rattle.std.specs.Map.{keys_of, lookup}
 use Rattle.std.proofs.lemmas.List.Folds.{list_any_more}
 use Rattle.std.proofs.lemmas.List.Sums.{fold_more}
@@ -13,10 +16,9 @@ use Rattle.fir_types.specs.declared.leaf.TypeLeaf.{TypeLeaf}
 use Rattle.fir_types.specs.Leaves.{leaves}
 use Rattle.fir_tree.specs.declared.expr.Expr.{Expr}
 use Rattle.fir_meaning.specs.Components.{Leaf}
-use Rattle.fir_meaning.specs.Drives.{same_leaf}
-use Rattle.fir_meaning.specs.Mentions.{Scope, Region, region_of}
+use Rattle.fir_meaning.specs.Mentions.{Scope, Region, region_of, leaves_at}
 use Rattle.fir_meaning.specs.Certain.{may_be, may_name}
-use Rattle.fir_meaning.specs.ClockRoot.{Driver, No_driver, From, in_branch, source_at, source_for, named_leaves}
+use Rattle.fir_meaning.specs.ClockRoot.{Driver, No_driver, From, in_branch, source_at, source_for, named_leaves, leaves_of_region}
 use Rattle.drive_check.specs.declared.leaf_set.LeafKey.{LeafKey}
 use Rattle.drive_check.specs.Keys.{leaf_of_key, is_among}
 use Rattle.drive_check.proofs.KeyTests.{key_eq, key_same, leaf_equal}
@@ -171,7 +173,36 @@ side_at (Some region) reach e flip leaf sources old = ap (λ (r : Region). if ma
 
 pub side_none : (o : Option Region) → Reaches o None → (flip : Bool) (leaf : Leaf) → may_name flip o leaf ≡ false
 side_none None e flip leaf = refl
-side_none (Some region) e flip leaf = ap (list_any (may_be flip region leaf)) e
+side_none (Some region) (inl e) flip leaf = ap (list_any (may_be flip region leaf)) e
+side_none (Some region) (inr e) flip leaf = none_of (may_be flip region leaf) (leaves region.typ)
+    (λ part. ap (λ xs. is_turned flip part && list_any (λ at. same_leaf at leaf) xs) (ap (map (leaf_at part.path)) e) ∙ and_false (is_turned flip part))
+  where
+    leaf_at : List PathStep → List PathStep → Leaf
+    leaf_at path way = record { component = region.component; way = way ++ path }
+
+-- nothing is named where no part has a way
+no_parts : (region : Region) (parts : List TypeLeaf) → region.ways ≡ [] → flat_map (λ part. leaves_at region part.path) parts ≡ []
+no_parts region [] e = refl
+no_parts region (part ∷ parts) e = ap (λ (xs : List Leaf). xs ++ flat_map (λ p. leaves_at region p.path) parts) (at part.path) ∙ no_parts region parts e
+  where
+    leaf_at : List PathStep → List PathStep → Leaf
+    leaf_at path way = record { component = region.component; way = way ++ path }
+
+    at : (path : List PathStep) → leaves_at region path ≡ []
+    at path = ap (map (leaf_at path)) e
+
+pub none_named : (o : Option Region) → Reaches o None → leaves_of_region o ≡ []
+none_named None e = refl
+none_named (Some region) (inl e) = by region.dynamic
+  where
+    by : (b : Bool) → (if b then [] else flat_map (λ part. leaves_at region part.path) (leaves region.typ)) ≡ []
+    by true = refl
+    by false = ap (flat_map (λ part. leaves_at region part.path)) e
+none_named (Some region) (inr e) = by region.dynamic
+  where
+    by : (b : Bool) → (if b then [] else flat_map (λ part. leaves_at region part.path) (leaves region.typ)) ≡ []
+    by true = refl
+    by false = no_parts region (leaves region.typ) e
 
 pub unnamed : (b : Bool) (d old : Driver) → b ≡ false → old ≡ (if b then d else old)
 unnamed b d old e = sym (picked b false d old e)

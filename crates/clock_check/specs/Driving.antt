@@ -1,5 +1,5 @@
 -- What the walk through a module knows of the drivers of leaves.
-use Rattle.std.specs.Prelude.{◌≡◌, ⊤, ℕ, Bool, true, false, List, [], ◌∷◌, ◌++◌, map, Option, Some, None, option_map, fold, if◌then◌else◌}
+use Rattle.std.specs.Prelude.{◌≡◌, ◌⊎◌, ⊤, ℕ, Bool, true, false, List, [], ◌∷◌, ◌++◌, map, Option, Some, None, option_map, fold, if◌then◌else◌}
 use Rattle.std.specs.Global.{Vec}
 use Rattle.fir_types.specs.declared.leaf.PathStep.{PathStep}
 use Rattle.std.specs.List.{list_any}
@@ -51,10 +51,10 @@ is_behind component path leaf way = same_leaf (record { component = component; w
 abbrev pub region_at : Reach → Region
 region_at reach = record { component = reach.component; typ = reach.typ.now; ways = ways_of reach.ways.items; dynamic = reach.dynamic; indices = [] }
 
--- it is this; or it has no leaves
+-- it is this; or it has no leaves, or no way leads to it
 abbrev pub Reaches : Option Region → Option Reach → Type 0
 Reaches (Some region) (Some reach) = bare region ≡ region_at reach
-Reaches (Some region) None = leaves region.typ ≡ []
+Reaches (Some region) None = (leaves region.typ ≡ []) ⊎ (region.ways ≡ [])
 Reaches None (Some reach) = ⊥
 Reaches None None = ⊤
 

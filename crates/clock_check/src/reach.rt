@@ -1,6 +1,6 @@
 //! What references may name, through dynamic indices as well.
 
-ghost use Rattle.std.specs.Prelude.{◌≡◌, ℕ, ◌||◌, ◌++◌, [], ◌∷◌, map, Some, IfOk, OnOk};
+ghost use Rattle.std.specs.Prelude.{◌≡◌, ℕ, ◌||◌, ◌++◌, [], ◌∷◌, map, Some, IsTrue, IfOk, OnOk};
 ghost use Rattle.fir_meaning.specs.Mentions.{Scope, Region, region_of, leaves_at, follow_all, suffix_onward, behind_each, elements_behind};
 ghost use Rattle.fir_meaning.specs.Values.{vector_length};
 ghost use Rattle.fir_meaning.specs.ClockRoot.{named_leaves, leaves_of_region};
@@ -26,7 +26,7 @@ pub struct Reach<'a> {
     pub dynamic: bool,
 }
 
-/// What an expression may name, where it is a reference to what has leaves.
+/// What an expression may name, where it is a reference to what has leaves and leads through no vector of no element.
 pub fn reach_of<'a>(
     alloc: Global,
     types: &'a ModuleTypes<'_>,
@@ -36,12 +36,39 @@ pub fn reach_of<'a>(
 {
     match &expr.form {
         Form::Ref(name, suffixes) => {
-            if leaf_count(type_behind(types.of(name.id), suffixes.as_slice())) == 0 {
+            let (typ, steps) = (types.of(name.id), suffixes.as_slice());
+            if leads_nowhere(typ, steps) {
                 return Ok(None);
             }
-            Ok(Some(follow(alloc, types, *name, suffixes.as_slice())?))
+            if leaf_count(type_behind(typ, steps)) == 0 {
+                return Ok(None);
+            }
+            Ok(Some(follow(alloc, types, *name, steps)?))
         }
         Form::Literal(_, _, _) | Form::Prim(_, _, _) | Form::Mux(_) => Ok(None),
+    }
+}
+
+/// Whether a dynamic index among the suffixes is one of a vector of no element.
+fn leads_nowhere(typ: &FirType, suffixes: &[Suffix]) -> bool
+    ensures { IsTrue result → (types : Scope) (id : ℕ) → types id ≡ typ.now → (follow_all types id (map suffix_onward suffixes.now)).ways ≡ [] }
+{
+    let mut found = typ;
+    let mut nowhere = false;
+    for suffix in suffixes {
+        nowhere = nowhere || has_no_element(found, suffix);
+        found = step_type(found, suffix);
+    }
+    nowhere
+}
+
+/// Whether this is a dynamic index of a vector of no element.
+fn has_no_element(typ: &FirType, suffix: &Suffix) -> bool
+    ensures { IsTrue result → (types : Scope) (region : Region) → region.typ ≡ typ.now → (suffix_onward suffix.now types region).ways ≡ [] }
+{
+    match suffix {
+        Suffix::Field(_) | Suffix::At(_, _, _) => false,
+        Suffix::Index(_, _) => vector_length(typ) == 0,
     }
 }
 

@@ -1,4 +1,4 @@
-use Rattle.std.proofs.Common.{◌∙◌, ap, sym, map, arith, rules}
+use Rattle.std.proofs.Common.{◌∙◌, ap, sym, map, arith, rules, inl, inr}
 use Rattle.std.proofs.lemmas.Grind.{common_steps}
 use Rattle.fir_types.specs.Leaves.{leaves}
 use Rattle.fir_types.proofs.Walks.{no_leaves}
@@ -10,6 +10,13 @@ use Rattle.clock_check.proofs.reach.reach_of.Goals as goal
 pub returns-then-leaf_count-eq0 : goal.returns-then-leaf_count-eq0
 returns-then-leaf_count-eq0 c =
     let types = types_in c.args.types.now in
-    let region = follow_all types c.in-Ref.name.id (map suffix_onward c.as_slice.result.now) in
-    reach_none (region_of types c.args.expr.now) region (region_is types c.args.expr.now c.in-Ref.name c.as_slice.result.now (search rules))
-    (ap leaves (c.type_behind.ensures types c.in-Ref.name.id (sym c.of.ensures)) ∙ no_leaves c.type_behind.result.now (grind (arith, common_steps)))
+    let region = follow_all types c.in-Ref.name.id (map suffix_onward c.as_slice-steps.result.now) in
+    reach_none (region_of types c.args.expr.now) region (region_is types c.args.expr.now c.in-Ref.name c.as_slice-steps.result.now (search rules))
+    (inl (ap leaves (c.type_behind.ensures types c.in-Ref.name.id (sym c.of-typ.ensures)) ∙ no_leaves c.type_behind.result.now (grind (arith, common_steps))))
+
+pub returns-then-leads_nowhere : goal.returns-then-leads_nowhere
+returns-then-leads_nowhere c =
+    let types = types_in c.args.types.now in
+    let region = follow_all types c.in-Ref.name.id (map suffix_onward c.as_slice-steps.result.now) in
+    reach_none (region_of types c.args.expr.now) region (region_is types c.args.expr.now c.in-Ref.name c.as_slice-steps.result.now (search rules))
+    (inr (c.leads_nowhere.ensures (search rules) types c.in-Ref.name.id (sym c.of-typ.ensures)))
