@@ -1,5 +1,5 @@
 -- The leaves of a memory's elements are one list.
-use Rattle.std.proofs.Common.{◌≡◌, ◌≢◌, ℕ, Bool, true, false, not, List, [], ◌∷◌, ◌++◌, map, Option, Some, None, refl, sym, ap, ap₂, ◌∙◌, subst, arith, if◌then◌else◌}
+use Rattle.std.proofs.Common.{◌≡◌, ◌≢◌, ℕ, suc, Bool, true, false, not, List, [], ◌∷◌, ◌++◌, map, slice_get, Option, Some, None, refl, sym, ap, ap₂, ◌∙◌, subst, arith, if◌then◌else◌}
 use Rattle.std.specs.Prelude.{⊤, filter_map}
 use Rattle.std.specs.List.{flat_map}
 use Rattle.std.proofs.lemmas.Grind.{common_steps}
@@ -16,12 +16,13 @@ use Rattle.fir_types.specs.declared.memory.MemLine.TheVariants as line
 use Rattle.fir_types.specs.declared.memory.PortMode.{PortMode}
 use Rattle.fir_types.specs.declared.memory.PortMode.TheVariants as mode
 use Rattle.fir_types.specs.Leaves.{leaves, under}
-use Rattle.fir_types.specs.Memories.{depth_of}
+use Rattle.fir_types.specs.Memories.{element_of, depth_of}
 use Rattle.fir_types.specs.Bundles.{nowhere, addr_name, en_name, clk_name, data_name, mask_name, rdata_name, wmode_name, wdata_name, wmask_name, plain_field, uint_at, clock_at, address_bits, fields_of_mode, port_type, port_field, mask_of}
 use Rattle.fir_meaning.specs.Components.{Component, ports_bundle}
 use Rattle.fir_meaning.specs.MemoryPorts.{MemoryPort, port_in, memory_ports}
 use Rattle.fir_meaning.specs.Elements.{IsElement}
 use Rattle.fir_meaning.proofs.Ports.{bundle_leaves}
+use Rattle.net_laws.proofs.Lists.{first_of, map_at}
 use Rattle.fir_meaning.proofs.MemoryLeaves.{uint_leaves, in_field, fields_of}
 
 -- The leaf stands behind a field of this name of a port.
@@ -220,6 +221,47 @@ elements_same c memory t u a b = by (memory_ports memory) refl where
   by (p ∷ ports) e =
       fields_same t u (depth_of memory) memory.lines (λ none. some p ports (sym e ∙ none))
       (sym (bundle_leaves nowhere (filter_map (port_field t (depth_of memory)) memory.lines)) ∙ (sym a.bundle ∙ (b.bundle ∙ bundle_leaves nowhere (filter_map (port_field u (depth_of memory)) memory.lines))))
+    where
+      some : (p : MemoryPort) (ports : List MemoryPort) → p ∷ ports ≡ [] → ⊥
+      some p ports n = absurd cc
+
+-- No two leaves stand at one way.
+abbrev pub Differ : List TypeLeaf → Type 0
+Differ ls = (j k : ℕ) (a b : TypeLeaf) → slice_get ls j ≡ Some a → slice_get ls k ≡ Some b → a.path ≡ b.path → j ≡ k
+
+data_differ : (typ : FirType) (depth : ℕ) (at : Place) (m : PortMode) (name : Name) (lines : List MemLine) → Differ (all_fields typ depth (line.MemPort at m name ∷ lines)) → Differ (leaves typ)
+data_differ typ depth at m name lines h j k a b e f same =
+    let d : ℕ = data_field m in
+    let there : (i : ℕ) (l : TypeLeaf) → slice_get (leaves typ) i ≡ Some l
+        → slice_get (first_three depth name (behind typ depth m name lines)) (suc (suc (suc i))) ≡ Some (of_port name.id (under (step.Field d ∷ []) (is_read m) l)) = λ i l g.
+    first_of (map (of_port name.id) (map (under (step.Field d ∷ []) (is_read m)) (leaves typ))) (map (of_port name.id) (flat_map in_field (other_fields name.place typ m)) ++ all_fields typ depth lines) i
+    (of_port name.id (under (step.Field d ∷ []) (is_read m) l))
+    (map_at (of_port name.id) (map (under (step.Field d ∷ []) (is_read m)) (leaves typ)) i (under (step.Field d ∷ []) (is_read m) l) (map_at (under (step.Field d ∷ []) (is_read m)) (leaves typ) i l g)) in
+    let whole : (i : ℕ) (l : TypeLeaf) → slice_get (leaves typ) i ≡ Some l
+        → slice_get (all_fields typ depth (line.MemPort at m name ∷ lines)) (suc (suc (suc i))) ≡ Some (of_port name.id (under (step.Field d ∷ []) (is_read m) l)) = λ i l g.
+    ap (λ ls. slice_get ls (suc (suc (suc i)))) (split typ depth at m name lines) ∙ there i l g in
+    let one : suc (suc (suc j)) ≡ suc (suc (suc k)) =
+    h (suc (suc (suc j))) (suc (suc (suc k))) (of_port name.id (under (step.Field d ∷ []) (is_read m) a)) (of_port name.id (under (step.Field d ∷ []) (is_read m) b)) (whole j a e) (whole k b f)
+    (ap (λ way. step.Field name.id ∷ step.Field d ∷ way) same) in
+    omega arith
+
+fields_differ : (typ : FirType) (depth : ℕ) (lines : List MemLine) → filter_map port_in lines ≢ [] → Differ (all_fields typ depth lines) → Differ (leaves typ)
+fields_differ typ depth [] some h = absurd (some refl)
+fields_differ typ depth (line.MemPort at m name ∷ lines) some h = data_differ typ depth at m name lines h
+fields_differ typ depth (line.Element at t ∷ lines) some h = fields_differ typ depth lines some h
+fields_differ typ depth (line.Depth at n ∷ lines) some h = fields_differ typ depth lines some h
+fields_differ typ depth (line.ReadLatency at n ∷ lines) some h = fields_differ typ depth lines some h
+fields_differ typ depth (line.WriteLatency at n ∷ lines) some h = fields_differ typ depth lines some h
+fields_differ typ depth (line.ReadUnder at u ∷ lines) some h = fields_differ typ depth lines some h
+
+-- So it is with the leaves of a memory's elements where it is with those of the memory, or where it has no ports with those of its text.
+pub elements_differ : (c : Component) (memory : Memory) (typ : FirType) → IsElement c memory typ → Differ (leaves c.typ) → (memory_ports memory ≡ [] → Differ (leaves (element_of memory))) → Differ (leaves typ)
+elements_differ c memory typ is shown stored = by (memory_ports memory) refl where
+  by : (ports : List MemoryPort) → memory_ports memory ≡ ports → Differ (leaves typ)
+  by [] e = subst Differ (sym (is.unported e)) (stored e)
+  by (p ∷ ports) e =
+      fields_differ typ (depth_of memory) memory.lines (λ none. some p ports (sym e ∙ none))
+      (subst Differ (is.bundle ∙ bundle_leaves nowhere (filter_map (port_field typ (depth_of memory)) memory.lines)) shown)
     where
       some : (p : MemoryPort) (ports : List MemoryPort) → p ∷ ports ≡ [] → ⊥
       some p ports n = absurd cc

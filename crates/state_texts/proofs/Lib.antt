@@ -5,3 +5,14 @@ pub mod Begun
 pub mod Elements
 pub mod Runs
 pub mod Given
+pub mod Counting
+pub mod Alike
+pub mod Same
+pub mod TwoNets
+pub mod Sound
+pub mod Once
+pub mod Faultless
+pub mod ReadBack
+pub mod Split
+pub mod Anew
+pub mod Accepted

@@ -7,7 +7,7 @@ use Rattle.bit_words.specs.declared.value.Value.{Value}
 use Rattle.bit_words.specs.Values.{integer_of}
 use Rattle.fir_tree.specs.LeafNames.{Texts}
 use Rattle.fir_meaning.specs.Components.{Design}
-use Rattle.fir_meaning.specs.States.{State, SameState, Trace}
+use Rattle.fir_meaning.specs.States.{State, SameState, Trace, first_state}
 use Rattle.fir_meaning.proofs.Settling.{state_itself}
 use Rattle.fir_meaning.proofs.Nexts.{rows_same}
 use Rattle.ground_net.specs.Watching.{inputs}
@@ -53,7 +53,7 @@ module _ (texts : Texts) (design : Design) (sound : IsSound texts design) where
   -- A run begins in one way.
   pub begins_once : {begin : Option (List ℕ)} {s s' : State} {snapshot snapshot' : Snapshot} → Begins texts design begin s snapshot → Begins texts design begin s' snapshot' → SameStart design s s' snapshot snapshot'
   begins_once (anew snapshot held cycle row) (anew snapshot' held' cycle' row') = record {
-    states = state_itself design _;
+    states = state_itself design first_state;
     cycles = cycle ∙ sym cycle';
     inputs = row ∙ (ap (map zero_of) (inputs_same texts design held.net held'.net (sound.serves held.net held.of) (sound.serves held'.net held'.of)) ∙ sym row');
   }

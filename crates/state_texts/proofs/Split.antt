@@ -34,7 +34,7 @@ use Rattle.state_texts.proofs.ReadBack.{read_back}
 read_of : {texts : Texts} {design : Design} {text : List ℕ} {s : State} {snapshot : Snapshot} → Begins texts design (Some text) s snapshot → IsReadAs texts design text s snapshot
 read_of (from_text text s snapshot read) = read
 
-held_of : {texts : Texts} {design : Design} {begin : Option (List ℕ)} {s : State} {snapshot : Snapshot} → Begins texts design begin s snapshot → IsHeld texts design s snapshot
+pub held_of : {texts : Texts} {design : Design} {begin : Option (List ℕ)} {s : State} {snapshot : Snapshot} → Begins texts design begin s snapshot → IsHeld texts design s snapshot
 held_of (anew snapshot held cycle row) = held
 held_of (from_text text s snapshot read) = read.held
 
