@@ -1,5 +1,6 @@
-use Rattle.std.proofs.Common.{◌≡◌, ◌-◌, ap, sym, ◌∙◌, arith}
-use Rattle.stimulus_parts.specs.Parts.{rows_from}
+use Rattle.std.proofs.Common.{◌≡◌, ◌-◌, ◌∷◌, [], map, sym, ap, ◌∙◌, arith}
+use Rattle.stimulus_parts.specs.Parts.{row_from, rows_from}
+use Rattle.circuit_state.proofs.Given.{rows_long}
 use Rattle.circuit_state.proofs.Last.{none_last}
 use Rattle.circuit_state.proofs.saving.last_inputs.Goals as goal
 
