@@ -6,6 +6,8 @@ use Rattle.std.proofs.lemmas.Grind.{common_steps}
 use Rattle.place_text.specs.Places.{first_place}
 use Rattle.fir_tree.specs.LeafNames.{Texts}
 use Rattle.stimulus.specs.declared.stimulus.Stimulus.{Stimulus}
+use Rattle.stimulus.specs.Stimuli.{IsFormed}
+use Rattle.sim_engine.specs.Building.{IsBuilt}
 use Rattle.sim_engine.specs.declared.compile.Built.{Built}
 use Rattle.circuit_run.specs.NetRuns.{IsPlanned}
 use Rattle.circuit_run.proofs.Writing.{nothing_written}
@@ -383,33 +385,18 @@ run_cut result bytes old new status part = record {
   part = λ n. part;
 }
 
--- what was built can be run
+-- what was built can be run under a stimulus that was read for it
+built_planned : (text : List ℕ) (built : Built) (stimulus : Stimulus) → IsBuilt text built → IsFormed built.ports stimulus → IsPlanned built.ordered built.ports stimulus
+built_planned text built stimulus b formed = record { net = b.ordered.serves.of.well_formed; order = b.ordered.sequence; fed = b.inputs; seen = b.watched; formed = formed }
+
 pub planned : (built : Built) (stimulus : Stimulus) (watched : List ℕ) → IsRunnable built stimulus watched → IsPlanned built.ordered built.ports stimulus
-planned built stimulus watched runnable = record {
-  net = runnable.is_built.ordered.serves.of.well_formed;
-  order = runnable.is_built.ordered.sequence;
-  fed = runnable.is_built.inputs;
-  seen = runnable.is_built.watched;
-  formed = runnable.formed;
-}
+planned built stimulus watched runnable = built_planned runnable.text built stimulus runnable.is_built runnable.formed
 
 pub dump_planned : (built : Built) (stimulus : Stimulus) (numbers : List ℕ) → IsDumpable built stimulus numbers → IsPlanned built.ordered built.ports stimulus
-dump_planned built stimulus numbers dumpable = record {
-  net = dumpable.is_built.ordered.serves.of.well_formed;
-  order = dumpable.is_built.ordered.sequence;
-  fed = dumpable.is_built.inputs;
-  seen = dumpable.is_built.watched;
-  formed = dumpable.formed;
-}
+dump_planned built stimulus numbers dumpable = built_planned dumpable.text built stimulus dumpable.is_built dumpable.formed
 
-pub saved_planned : (built : Built) (stimulus : Stimulus) (start : Snapshot) → IsSavable built stimulus start → IsPlanned built.ordered built.ports stimulus
-saved_planned built stimulus start savable = record {
-  net = savable.is_built.ordered.serves.of.well_formed;
-  order = savable.is_built.ordered.sequence;
-  fed = savable.is_built.inputs;
-  seen = savable.is_built.watched;
-  formed = savable.formed;
-}
+pub save_planned : (built : Built) (stimulus : Stimulus) (start : Snapshot) → IsSavable built stimulus start → IsPlanned built.ordered built.ports stimulus
+save_planned built stimulus start savable = built_planned savable.text built stimulus savable.is_built savable.formed
 
 -- how the text of a state was written
 pub written_said : (IsText : List ℕ → Type 0) (result : ℕ) (bytes : List ℕ) (old new : Option (List ℕ)) → IsText bytes → IsSaid result 0 bytes old new → IsWritten IsText result old new

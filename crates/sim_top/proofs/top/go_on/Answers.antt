@@ -1,5 +1,5 @@
 use Rattle.std.proofs.Common.{inl, inr, refl}
-use Rattle.sim_top.proofs.Apart.{keeps_apart}
+use Rattle.sim_top.proofs.Apart.{accepted_apart}
 use Rattle.sim_top.proofs.Replying.{run_whole, run_cut, planned}
 use Rattle.sim_top.proofs.top.go_on.Goals as goal
 
@@ -7,19 +7,19 @@ pub returns-in-Ok-clause-resumed : goal.returns-in-Ok-clause-resumed
 returns-in-Ok-clause-resumed g c = λ begin begins.
     let r = c.requires.resumable.runnable in
     let b = r.is_built in
-    let t = c.in-Ok.ensures.resumed r.are_watched _ _ b.ordered.serves (keeps_apart _ _ b.accepted) begin begins in (t.0, t.1, run_whole _ _ _ t.2)
+    let t = c.in-Ok.ensures.resumed r.are_watched _ _ b.ordered.serves (accepted_apart _ _ b.accepted) begin begins in (t.0, t.1, run_whole _ _ _ t.2)
 
 pub returns-in-Err-WriteFault-clause-resumed : goal.returns-in-Err-WriteFault-clause-resumed
 returns-in-Err-WriteFault-clause-resumed g c = λ begin begins.
     let r = c.requires.resumable.runnable in
     let b = r.is_built in
-    let t = c.in-Err-WriteFault.ensures.resumed r.are_watched _ _ b.ordered.serves (keeps_apart _ _ b.accepted) begin begins in (t.0, t.1, run_cut 5 _ _ _ (inl refl) t.3)
+    let t = c.in-Err-WriteFault.ensures.resumed r.are_watched _ _ b.ordered.serves (accepted_apart _ _ b.accepted) begin begins in (t.0, t.1, run_cut 5 _ _ _ (inl refl) t.3)
 
 pub returns-in-Err-NoMemory-clause-resumed : goal.returns-in-Err-NoMemory-clause-resumed
 returns-in-Err-NoMemory-clause-resumed g c = λ begin begins.
     let r = c.requires.resumable.runnable in
     let b = r.is_built in
-    let t = c.in-Err-NoMemory.ensures.resumed r.are_watched _ _ b.ordered.serves (keeps_apart _ _ b.accepted) begin begins in (t.0, t.1, run_cut 6 _ _ _ (inr refl) t.3)
+    let t = c.in-Err-NoMemory.ensures.resumed r.are_watched _ _ b.ordered.serves (accepted_apart _ _ b.accepted) begin begins in (t.0, t.1, run_cut 6 _ _ _ (inr refl) t.3)
 
 pub resume-requires-clause-said : goal.resume-requires-clause-said
 resume-requires-clause-said g c κs within = c.requires.resumable.runnable.is_built.ordered.serves.of.is.words

@@ -1,12 +1,12 @@
 use Rattle.std.proofs.Common.{inr, refl}
-use Rattle.sim_top.proofs.Apart.{keeps_apart}
+use Rattle.sim_top.proofs.Apart.{accepted_apart}
 use Rattle.sim_top.proofs.Replying.{save_planned, said_status, written_said, written_none}
 use Rattle.sim_top.proofs.top.write_state.Goals as goal
 
 pub returns-in-Ok-clause-saved : goal.returns-in-Ok-clause-saved
 returns-in-Ok-clause-saved g c = λ begin begins.
     let b = c.requires.savable.is_built in
-    written_said _ _ _ _ _ (c.in-Ok.ensures.saved _ _ b.ordered.serves (keeps_apart _ _ b.accepted) begin begins) c.say.ensures.said
+    written_said _ _ _ _ _ (c.in-Ok.ensures.saved _ _ b.ordered.serves (accepted_apart _ _ b.accepted) begin begins) c.say.ensures.said
 
 pub returns-in-Ok-clause-status : goal.returns-in-Ok-clause-status
 returns-in-Ok-clause-status g c = said_status _ _ _ _ c.say.ensures.said
