@@ -10,7 +10,7 @@ use Rattle.fir_types.specs.declared.fir_type.FirType.{FirType}
 use Rattle.fir_tree.specs.declared.circuit.Circuit.{Circuit}
 use Rattle.fir_tree.specs.declared.scope.Fitted.{Fitted}
 use Rattle.fir_meaning.specs.Components.{Design, design_of}
-use Rattle.fir_meaning.specs.States.{first_state}
+use Rattle.fir_meaning.specs.States.{State, first_state}
 use Rattle.ground_net.specs.declared.net.Ports.{Ports}
 use Rattle.stimulus.specs.declared.stimulus.Stimulus.{Stimulus}
 use Rattle.stimulus.specs.declared.fault.StimFault.{StimFault}
@@ -35,9 +35,13 @@ use Rattle.circuit_dump.specs.VcdTexts.{IsVcdText}
 use Rattle.circuit_dump.proofs.DumpsOnce.{one_dump}
 use Rattle.width_fit.specs.Fitting.{IsFittedCircuit}
 use Rattle.snapshot_text.specs.declared.fault.StateFault.{StateFault}
+use Rattle.snapshot_text.specs.declared.snapshot.Snapshot.{Snapshot}
 use Rattle.snapshot_text.specs.Faults.{place_of as place_in_state}
-use Rattle.state_texts.specs.Held.{IsFirstStateFault}
+use Rattle.state_texts.specs.Held.{IsFirstStateFault, Begins, from_text}
 use Rattle.state_texts.specs.Texts.{IsResumedText, IsSavedText}
+use Rattle.state_texts.proofs.Sound.{IsSound, well_formed_is_sound}
+use Rattle.state_texts.proofs.Once.{fault_once, resumed_once, saved_once}
+use Rattle.state_texts.proofs.Faultless.{no_fault as no_state_fault}
 use Rattle.sim_engine.specs.Stages.{circuit_limit, IsAccepted}
 use Rattle.sim_engine.specs.Faults.{fault_place}
 use Rattle.sim_engine.specs.declared.fault.CircuitFault.{CircuitFault}
@@ -48,6 +52,7 @@ use Rattle.sim_top.specs.declared.words.Keeping.{Keeping}
 use Rattle.sim_top.specs.Commands.{StateText, Told, Too_long, told, joined_limit, Job, Run, Check, Widths, Cut, Refine, Vcd, Save, Resume, job_from, Question, Of_joined, Of_two, Of_state, Of_made, asked_by}
 use Rattle.sim_top.specs.Texts.{IsPart, IsTaken, reads_all, stimulus_limit}
 use Rattle.sim_top.specs.Answers.{fault_bytes, stimulus_bytes, state_bytes, RefusesStimulus, stimulus_too_long, stimulus_faulty, TakesStimulus, Runs, stimulus_refused, written, RefusesState, state_too_long, state_faulty, TakesState, no_state, told_state, RunsFrom, given_refused, state_refused, begun, JudgesTexts, refused, accepted, listed, divided, refined, ran, watch_unknown, dumped, saved, resumed, Judges, joined_too_long, no_stimulus, circuit_too_long, taken, AnswersTo, of_joined, of_long_circuit, of_two, of_long_joined, of_state, of_made, of_made_refused, Answers, no_command, answered}
+use Rattle.sim_top.proofs.Apart.{accepted_names}
 use Rattle.sim_top.proofs.Splitting.{part_once, run_has_line}
 
 pub some_same : {A : Type 0} (x y : A) → Some x ≡ Some y → x ≡ y
@@ -176,11 +181,27 @@ Saves texts design state given = IsSavedText texts design given state
 abbrev Resumes : Texts → Design → WritesFrom
 Resumes texts design state given = IsResumedText texts design given state
 
+sound : (text : List ℕ) (fitted : Fitted) → IsAccepted text fitted → IsSound fitted.checked.resolved.names (design_of fitted)
+sound text fitted a = well_formed_is_sound fitted.checked.resolved.names fitted (fitted_well_formed text fitted a.clocked.driven.fits) a.no_loop
+
+begins_faultless : (text : List ℕ) (fitted : Fitted) → IsAccepted text fitted → (state : List ℕ) (fault : StateFault) (s : State) (snapshot : Snapshot)
+    → IsFirstStateFault fitted.checked.resolved.names (design_of fitted) state fault → Begins fitted.checked.resolved.names (design_of fitted) (Some state) s snapshot → ⊥
+begins_faultless text fitted a state fault _ _ f (from_text _ s snapshot read) =
+    no_state_fault fitted.checked.resolved.names (accepted_names text fitted a) (design_of fitted) (sound text fitted a) state s snapshot fault read f
+
 saves_once : (text : List ℕ) (fitted : Fitted) → IsAccepted text fitted → BeginsOnce fitted.checked.resolved.names (design_of fitted) (Saves fitted.checked.resolved.names (design_of fitted))
-saves_once text fitted a = ?
+saves_once text fitted a = record {
+  faults = fault_once fitted.checked.resolved.names (design_of fitted) (sound text fitted a);
+  faultless = λ state fault stimulus bytes f w. begins_faultless text fitted a state fault w.start w.snapshot f w.begins;
+  once = λ state stimulus. saved_once fitted.checked.resolved.names (design_of fitted) (sound text fitted a) stimulus state;
+}
 
 resumes_once : (text : List ℕ) (fitted : Fitted) → IsAccepted text fitted → BeginsOnce fitted.checked.resolved.names (design_of fitted) (Resumes fitted.checked.resolved.names (design_of fitted))
-resumes_once text fitted a = ?
+resumes_once text fitted a = record {
+  faults = fault_once fitted.checked.resolved.names (design_of fitted) (sound text fitted a);
+  faultless = λ state fault stimulus bytes f w. begins_faultless text fitted a state fault w.start w.snapshot f w.begins;
+  once = λ state stimulus. resumed_once fitted.checked.resolved.names (design_of fitted) (sound text fitted a) stimulus state;
+}
 
 texts_once : (job : Job) (text stimulus : List ℕ) (s t : ℕ) (b d : List ℕ) → JudgesTexts job text stimulus s b → JudgesTexts job text stimulus t d
     → (s ≡ t) × (b ≡ d)

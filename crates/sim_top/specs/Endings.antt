@@ -117,14 +117,14 @@ pub record IsStart (built : Built) (start : Snapshot) : Type 0 where
 -- What was built can be run under the stimulus from a snapshot, with the leaves of these numbers watched.
 pub record IsResumable (built : Built) (stimulus : Stimulus) (watched : List ℕ) (start : Snapshot) : Type 0 where
   pub runnable : IsRunnable built stimulus watched
-  pub start : IsStart built start
+  pub is_start : IsStart built start
 
 -- The same, with no leaf watched.
 pub record IsSavable (built : Built) (stimulus : Stimulus) (start : Snapshot) : Type 0 where
   pub text : List ℕ
   pub is_built : IsBuilt text built
   pub formed : IsFormed built.ports stimulus
-  pub start : IsStart built start
+  pub is_start : IsStart built start
 
 -- What a decision for a job is: a run that can be run, or a reply. Of a run no trace is said, none is dumped, and none goes on from a state.
 abbrev pub IsFor : Job → Decision → Type 0

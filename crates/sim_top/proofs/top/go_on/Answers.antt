@@ -31,7 +31,7 @@ pub resume-requires-clause-watched : goal.resume-requires-clause-watched
 resume-requires-clause-watched g c κs within = c.requires.resumable.runnable.are_leaves
 
 pub resume-requires-clause-cycle : goal.resume-requires-clause-cycle
-resume-requires-clause-cycle g c κs within = c.requires.resumable.start.few
+resume-requires-clause-cycle g c κs within = c.requires.resumable.is_start.few
 
 pub resume-requires-clause-holds : goal.resume-requires-clause-holds
-resume-requires-clause-holds g c κs within = (c.requires.resumable.start.state, c.requires.resumable.start.holds)
+resume-requires-clause-holds g c κs within = (c.requires.resumable.is_start.state, c.requires.resumable.is_start.holds)

@@ -21,7 +21,7 @@ pub save-requires-clause-planned : goal.save-requires-clause-planned
 save-requires-clause-planned g c κs within = save_planned _ _ _ c.requires.savable
 
 pub save-requires-clause-cycle : goal.save-requires-clause-cycle
-save-requires-clause-cycle g c κs within = c.requires.savable.start.few
+save-requires-clause-cycle g c κs within = c.requires.savable.is_start.few
 
 pub save-requires-clause-holds : goal.save-requires-clause-holds
-save-requires-clause-holds g c κs within = (c.requires.savable.start.state, c.requires.savable.start.holds)
+save-requires-clause-holds g c κs within = (c.requires.savable.is_start.state, c.requires.savable.is_start.holds)
