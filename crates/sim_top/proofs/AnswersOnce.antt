@@ -10,7 +10,7 @@ use Rattle.fir_types.specs.declared.fir_type.FirType.{FirType}
 use Rattle.fir_tree.specs.declared.circuit.Circuit.{Circuit}
 use Rattle.fir_tree.specs.declared.scope.Fitted.{Fitted}
 use Rattle.fir_meaning.specs.Components.{Design, design_of}
-use Rattle.fir_meaning.specs.States.{first_state}
+use Rattle.fir_meaning.specs.States.{State, first_state}
 use Rattle.ground_net.specs.declared.net.Ports.{Ports}
 use Rattle.stimulus.specs.declared.stimulus.Stimulus.{Stimulus}
 use Rattle.stimulus.specs.declared.fault.StimFault.{StimFault}
@@ -34,15 +34,25 @@ use Rattle.circuit_dump.specs.Variables.{NamesNoLeaf}
 use Rattle.circuit_dump.specs.VcdTexts.{IsVcdText}
 use Rattle.circuit_dump.proofs.DumpsOnce.{one_dump}
 use Rattle.width_fit.specs.Fitting.{IsFittedCircuit}
+use Rattle.snapshot_text.specs.declared.fault.StateFault.{StateFault}
+use Rattle.snapshot_text.specs.declared.snapshot.Snapshot.{Snapshot}
+use Rattle.snapshot_text.specs.Faults.{place_of as place_in_state}
+use Rattle.state_texts.specs.Held.{IsFirstStateFault, Begins, from_text}
+use Rattle.state_texts.specs.Texts.{IsResumedText, IsSavedText}
+use Rattle.state_texts.proofs.Sound.{IsSound, well_formed_is_sound}
+use Rattle.state_texts.proofs.Once.{fault_once, resumed_once, saved_once}
+use Rattle.state_texts.proofs.Faultless.{no_fault as no_state_fault}
 use Rattle.sim_engine.specs.Stages.{circuit_limit, IsAccepted}
 use Rattle.sim_engine.specs.Faults.{fault_place}
 use Rattle.sim_engine.specs.declared.fault.CircuitFault.{CircuitFault}
 use Rattle.sim_engine.proofs.Accepting.{fitted_well_formed}
 use Rattle.sim_engine.proofs.Once.{one_fault, no_fault, accepted_once}
 use Rattle.sim_engine.proofs.Solving.{same_at, same_declared, same_modules, flagged}
-use Rattle.sim_top.specs.Commands.{Job, Run, Check, Widths, Cut, Refine, Vcd, Question, Of_joined, Of_two, Of_made, asked_by}
-use Rattle.sim_top.specs.Texts.{IsPart, IsTaken, joined_limit, reads_all, stimulus_limit}
-use Rattle.sim_top.specs.Answers.{fault_bytes, stimulus_bytes, RefusesStimulus, stimulus_too_long, stimulus_faulty, TakesStimulus, Runs, stimulus_refused, written, JudgesTexts, refused, accepted, listed, divided, refined, ran, watch_unknown, dumped, Judges, joined_too_long, no_stimulus, circuit_too_long, taken, AnswersTo, of_joined, of_long_circuit, of_two, of_made, of_made_refused, Answers, no_command, answered}
+use Rattle.sim_top.specs.declared.words.Keeping.{Keeping}
+use Rattle.sim_top.specs.Commands.{StateText, Told, Too_long, told, joined_limit, Job, Run, Check, Widths, Cut, Refine, Vcd, Save, Resume, job_from, Question, Of_joined, Of_two, Of_state, Of_made, asked_by}
+use Rattle.sim_top.specs.Texts.{IsPart, IsTaken, reads_all, stimulus_limit}
+use Rattle.sim_top.specs.Answers.{fault_bytes, stimulus_bytes, state_bytes, RefusesStimulus, stimulus_too_long, stimulus_faulty, TakesStimulus, Runs, stimulus_refused, written, RefusesState, state_too_long, state_faulty, TakesState, no_state, told_state, RunsFrom, given_refused, state_refused, begun, JudgesTexts, refused, accepted, listed, divided, refined, ran, watch_unknown, dumped, saved, resumed, Judges, joined_too_long, no_stimulus, circuit_too_long, taken, AnswersTo, of_joined, of_long_circuit, of_two, of_long_joined, of_state, of_made, of_made_refused, Answers, no_command, answered}
+use Rattle.sim_top.proofs.Apart.{accepted_names}
 use Rattle.sim_top.proofs.Splitting.{part_once, run_has_line}
 
 pub some_same : {A : Type 0} (x y : A) → Some x ≡ Some y → x ≡ y
@@ -112,6 +122,48 @@ runs_once texts design Writes one text _ _ b d (written u _ t p) (stimulus_refus
 runs_once texts design Writes one text _ _ b d (written u _ t p) (written v _ o q) =
     (refl, one u b d p (subst (λ y. Writes y d) (taken_once texts design text u v t o) q))
 
+-- a run that begins with a state
+same_state_fault : (f g : StateFault) (p q : Place) → f ≡ g → place_in_state f ≡ Some p → place_in_state g ≡ Some q → state_bytes f p ≡ state_bytes g q
+same_state_fault f g p q e is at = ap₂ state_bytes e (some_same p q (sym is ∙ ap place_in_state e ∙ at))
+
+abbrev WritesFrom : Type 1
+WritesFrom = Option (List ℕ) → Stimulus → List ℕ → Type 0
+
+-- A text has one first fault of its state, and from one that has a fault nothing is written; from a state, or none, a stimulus has one text.
+record BeginsOnce (texts : Texts) (design : Design) (Writes : WritesFrom) : Type 0 where
+  faults : (state : List ℕ) (f g : StateFault) → IsFirstStateFault texts design state f → IsFirstStateFault texts design state g → f ≡ g
+  faultless : (state : List ℕ) (fault : StateFault) (stimulus : Stimulus) (bytes : List ℕ) → IsFirstStateFault texts design state fault → Writes (Some state) stimulus bytes → ⊥
+  once : (state : Option (List ℕ)) → WritesOnce (Writes state)
+
+module _ (texts : Texts) (design : Design) (Writes : WritesFrom) (begins : BeginsOnce texts design Writes) where
+  one_state_refusal : (begin : Option StateText) (b d : List ℕ) → RefusesState texts design begin b → RefusesState texts design begin d → b ≡ d
+  one_state_refusal None b d r q = elim r [ ]
+  one_state_refusal (Some Too_long) _ _ state_too_long state_too_long = refl
+  one_state_refusal (Some (Told state)) _ _ (state_faulty _ f p is at) (state_faulty _ g q is' at') = same_state_fault f g p q (begins.faults state f g is is') at at'
+
+  state_refused_or_taken : (begin : Option StateText) (state : Option (List ℕ)) (stimulus : Stimulus) (b d : List ℕ) → RefusesState texts design begin b → TakesState begin state
+      → Writes state stimulus d → ⊥
+  state_refused_or_taken None state stimulus b d r k w = elim r [ ]
+  state_refused_or_taken (Some Too_long) state stimulus b d r k w = elim k [ ]
+  state_refused_or_taken (Some (Told text)) _ stimulus _ d (state_faulty _ f p is at) (told_state _) w = begins.faultless text f stimulus d is w
+
+  state_once : (begin : Option StateText) (s t : Option (List ℕ)) → TakesState begin s → TakesState begin t → s ≡ t
+  state_once None _ _ no_state no_state = refl
+  state_once (Some Too_long) s t k l = elim k [ ]
+  state_once (Some (Told text)) _ _ (told_state _) (told_state _) = refl
+
+  begun_once : (begin : Option StateText) (text : List ℕ) (s t : ℕ) (b d : List ℕ) → RunsFrom texts design Writes begin text s b → RunsFrom texts design Writes begin text t d → (s ≡ t) × (b ≡ d)
+  begun_once begin text _ _ b d (given_refused _ r) (given_refused _ q) = (refl, one_refusal texts design text b d r q)
+  begun_once begin text _ _ b d (given_refused _ r) (state_refused v _ o q) = absurd (refused_or_taken texts design text b v r o)
+  begun_once begin text _ _ b d (given_refused _ r) (begun v state _ o k w) = absurd (refused_or_taken texts design text b v r o)
+  begun_once begin text _ _ b d (state_refused u _ t r) (given_refused _ q) = absurd (refused_or_taken texts design text d u q t)
+  begun_once begin text _ _ b d (state_refused u _ t r) (state_refused v _ o q) = (refl, one_state_refusal begin b d r q)
+  begun_once begin text _ _ b d (state_refused u _ t r) (begun v state _ o k w) = absurd (state_refused_or_taken begin state v b d r k w)
+  begun_once begin text _ _ b d (begun u state _ t k w) (given_refused _ q) = absurd (refused_or_taken texts design text d u q t)
+  begun_once begin text _ _ b d (begun u state _ t k w) (state_refused v _ o q) = absurd (state_refused_or_taken begin state u d b q k w)
+  begun_once begin text _ _ b d (begun u state _ t k w) (begun v other _ o l x) =
+      (refl, begins.once state u b d w (subst (λ z. Writes z u d) (state_once begin other state l k) (subst (λ y. Writes other y d) (taken_once texts design text u v t o) x)))
+
 -- where the circuit's text was taken
 same_fault : (f g : CircuitFault) (p q : Place) → f ≡ g → fault_place f ≡ Some p → fault_place g ≡ Some q → fault_bytes f p ≡ fault_bytes g q
 same_fault f g p q e is at = ap₂ fault_bytes e (some_same p q (sym is ∙ ap fault_place e ∙ at))
@@ -122,6 +174,34 @@ carried : (P : Texts → Design → Type 0) (text : List ℕ) (first second : Fi
 carried P text first second a o p =
     let same = accepted_once text first second a o in
     subst (λ (x : Design). P second.checked.resolved.names x) same.1 (subst (λ (c : Circuit). P c.names (design_of first)) same.0 p)
+
+abbrev Saves : Texts → Design → WritesFrom
+Saves texts design state given = IsSavedText texts design given state
+
+abbrev Resumes : Texts → Design → WritesFrom
+Resumes texts design state given = IsResumedText texts design given state
+
+sound : (text : List ℕ) (fitted : Fitted) → IsAccepted text fitted → IsSound fitted.checked.resolved.names (design_of fitted)
+sound text fitted a = well_formed_is_sound fitted.checked.resolved.names fitted (fitted_well_formed text fitted a.clocked.driven.fits) a.no_loop
+
+begins_faultless : (text : List ℕ) (fitted : Fitted) → IsAccepted text fitted → (state : List ℕ) (fault : StateFault) (s : State) (snapshot : Snapshot)
+    → IsFirstStateFault fitted.checked.resolved.names (design_of fitted) state fault → Begins fitted.checked.resolved.names (design_of fitted) (Some state) s snapshot → ⊥
+begins_faultless text fitted a state fault _ _ f (from_text _ s snapshot read) =
+    no_state_fault fitted.checked.resolved.names (accepted_names text fitted a) (design_of fitted) (sound text fitted a) state s snapshot fault read f
+
+saves_once : (text : List ℕ) (fitted : Fitted) → IsAccepted text fitted → BeginsOnce fitted.checked.resolved.names (design_of fitted) (Saves fitted.checked.resolved.names (design_of fitted))
+saves_once text fitted a = record {
+  faults = fault_once fitted.checked.resolved.names (design_of fitted) (sound text fitted a);
+  faultless = λ state fault stimulus bytes f w. begins_faultless text fitted a state fault w.start w.snapshot f w.begins;
+  once = λ state stimulus. saved_once fitted.checked.resolved.names (design_of fitted) (sound text fitted a) stimulus state;
+}
+
+resumes_once : (text : List ℕ) (fitted : Fitted) → IsAccepted text fitted → BeginsOnce fitted.checked.resolved.names (design_of fitted) (Resumes fitted.checked.resolved.names (design_of fitted))
+resumes_once text fitted a = record {
+  faults = fault_once fitted.checked.resolved.names (design_of fitted) (sound text fitted a);
+  faultless = λ state fault stimulus bytes f w. begins_faultless text fitted a state fault w.start w.snapshot f w.begins;
+  once = λ state stimulus. resumed_once fitted.checked.resolved.names (design_of fitted) (sound text fitted a) stimulus state;
+}
 
 texts_once : (job : Job) (text stimulus : List ℕ) (s t : ℕ) (b d : List ℕ) → JudgesTexts job text stimulus s b → JudgesTexts job text stimulus t d
     → (s ≡ t) × (b ≡ d)
@@ -159,6 +239,16 @@ texts_once (Vcd names) text stimulus _ _ _ _ (dumped _ _ _ fitted _ _ a known r)
 texts_once (Vcd names) text stimulus s t b d (dumped _ _ _ fitted _ _ a known r) (dumped _ _ _ other _ _ o knows q) =
     let here = carried (λ texts design. Runs texts design (IsVcdText texts design names) stimulus t d) text other fitted o a q in
     runs_once fitted.checked.resolved.names (design_of fitted) (IsVcdText fitted.checked.resolved.names (design_of fitted) names) (same_dump text fitted a names) stimulus s t b d r here
+texts_once (Save begin) text stimulus _ _ _ _ (refused _ _ _ f p is at) (saved _ _ _ fitted _ _ a r) = absurd (no_fault text f fitted is a)
+texts_once (Save begin) text stimulus _ _ _ _ (saved _ _ _ fitted _ _ a r) (refused _ _ _ f p is at) = absurd (no_fault text f fitted is a)
+texts_once (Save begin) text stimulus s t b d (saved _ _ _ fitted _ _ a r) (saved _ _ _ other _ _ o q) =
+    let here = carried (λ texts design. RunsFrom texts design (Saves texts design) begin stimulus t d) text other fitted o a q in
+    begun_once fitted.checked.resolved.names (design_of fitted) (Saves fitted.checked.resolved.names (design_of fitted)) (saves_once text fitted a) begin stimulus s t b d r here
+texts_once (Resume begin) text stimulus _ _ _ _ (refused _ _ _ f p is at) (resumed _ _ _ fitted _ _ a r) = absurd (no_fault text f fitted is a)
+texts_once (Resume begin) text stimulus _ _ _ _ (resumed _ _ _ fitted _ _ a r) (refused _ _ _ f p is at) = absurd (no_fault text f fitted is a)
+texts_once (Resume begin) text stimulus s t b d (resumed _ _ _ fitted _ _ a r) (resumed _ _ _ other _ _ o q) =
+    let here = carried (λ texts design. RunsFrom texts design (Resumes texts design) (Some begin) stimulus t d) text other fitted o a q in
+    begun_once fitted.checked.resolved.names (design_of fitted) (Resumes fitted.checked.resolved.names (design_of fitted)) (resumes_once text fitted a) (Some begin) stimulus s t b d r here
 
 -- what is answered to a text
 other_part : (job : Job) (joined circuit stimulus : List ℕ) → IsPart job joined circuit stimulus → circuit_limit < length circuit
@@ -168,9 +258,9 @@ other_part job joined circuit stimulus p l other more t =
     let h = t.short in
     let k : length circuit ≡ length other = ap length e in omega (arith, l, h, k)
 
-too_long_here : (texts : List ℕ → Option (List ℕ)) (name text other : List ℕ) → texts name ≡ Some text → texts name ≡ Some other → circuit_limit < length text
-    → length other ≤ circuit_limit → ⊥
-too_long_here texts name text other h k l m =
+too_long_here : (texts : List ℕ → Option (List ℕ)) (limit : ℕ) (name text other : List ℕ) → texts name ≡ Some text → texts name ≡ Some other → limit < length text
+    → length other ≤ limit → ⊥
+too_long_here texts limit name text other h k l m =
     let same : length text ≡ length other = ap length (some_same text other (sym h ∙ k)) in omega (arith, l, m, same)
 
 judged_once : (job : Job) (joined : List ℕ) (s t : ℕ) (b d : List ℕ) → Judges job joined s b → Judges job joined t d
@@ -209,12 +299,19 @@ asked_once texts (Of_joined job name) s t b d (of_joined _ _ joined _ _ h j) (of
     let x : text ≡ joined = some_same text joined (sym k ∙ h) in
     judged_once job joined s t b d j (subst (λ y. Judges job y t d) x i)
 asked_once texts (Of_two circuit stimulus) _ _ _ _ (of_long_circuit _ _ text h l) (of_long_circuit _ _ other k m) = (refl, refl)
-asked_once texts (Of_two circuit stimulus) _ _ _ _ (of_long_circuit _ _ text h l) (of_two _ _ other given _ _ k m g j) = absurd (too_long_here texts circuit text other h k l m)
-asked_once texts (Of_two circuit stimulus) _ _ _ _ (of_two _ _ other given _ _ k m g j) (of_long_circuit _ _ text h l) = absurd (too_long_here texts circuit text other h k l m)
+asked_once texts (Of_two circuit stimulus) _ _ _ _ (of_long_circuit _ _ text h l) (of_two _ _ other given _ _ k m g j) = absurd (too_long_here texts circuit_limit circuit text other h k l m)
+asked_once texts (Of_two circuit stimulus) _ _ _ _ (of_two _ _ other given _ _ k m g j) (of_long_circuit _ _ text h l) = absurd (too_long_here texts circuit_limit circuit text other h k l m)
 asked_once texts (Of_two circuit stimulus) s t b d (of_two _ _ text given _ _ h l g j) (of_two _ _ other more _ _ k m f i) =
     let x : other ≡ text = some_same other text (sym k ∙ h) in
     let y : more ≡ given = some_same more given (sym f ∙ g) in
     texts_once Run text given s t b d j (subst (λ z. JudgesTexts Run text z t d) y (subst (λ z. JudgesTexts Run z more t d) x i))
+asked_once texts (Of_state keeping circuit state) _ _ _ _ (of_long_joined _ _ _ joined h l) (of_long_joined _ _ _ other k m) = (refl, refl)
+asked_once texts (Of_state keeping circuit state) _ _ _ _ (of_long_joined _ _ _ joined h l) (of_state _ _ _ other text _ _ k m g j) = absurd (too_long_here texts joined_limit circuit joined other h k l m)
+asked_once texts (Of_state keeping circuit state) _ _ _ _ (of_state _ _ _ other text _ _ k m g j) (of_long_joined _ _ _ joined h l) = absurd (too_long_here texts joined_limit circuit joined other h k l m)
+asked_once texts (Of_state keeping circuit state) s t b d (of_state _ _ _ joined text _ _ h l g j) (of_state _ _ _ other more _ _ k m f i) =
+    let x : other ≡ joined = some_same other joined (sym k ∙ h) in
+    let y : more ≡ text = some_same more text (sym f ∙ g) in
+    judged_once (job_from keeping (told text)) joined s t b d j (subst (λ z. Judges (job_from keeping (told z)) joined t d) y (subst (λ z. Judges (job_from keeping (told more)) z t d) x i))
 asked_once texts (Of_made cycles size) _ _ b d (of_made _ _ trace _ j s) (of_made _ _ other _ i r) =
     (refl, two_summaries (ring_text size cycles) trace other b d j i s r)
 asked_once texts (Of_made cycles size) _ t b d (of_made _ _ trace _ j s) (of_made_refused _ _ _ _ i n) = absurd (no_summary (ring_text size cycles) trace t d j i n)

@@ -1,8 +1,9 @@
 -- What a command answers, from what the text is.
 use Rattle.std.proofs.Common.{◌≡◌, ◌≢◌, ℕ, ◌<◌, ◌≤◌, Bool, true, false, List, ◌⊎◌, ⊎_elim, length, sym, ap, ◌∙◌, subst, arith}
-use Rattle.std.specs.Prelude.{Some, None, Result, Ok, Err, codes}
+use Rattle.std.specs.Prelude.{Option, Some, None, Result, Ok, Err, codes}
 use Rattle.place_text.specs.declared.place.Place.{Place}
 use Rattle.place_text.specs.Places.{first_place}
+use Rattle.fault_order.specs.First.{IsFirst}
 use Rattle.fault_order.specs.Verdicts.{IsVerdict}
 use Rattle.fir_meaning.specs.Components.{design_of}
 use Rattle.ground_net.specs.declared.net.Net.{Net}
@@ -10,6 +11,16 @@ use Rattle.stimulus.specs.declared.stimulus.Stimulus.{Stimulus}
 use Rattle.stimulus.specs.declared.fault.StimFault.{StimFault}
 use Rattle.stimulus.specs.Faults.{IsFault, place_of, rank_of}
 use Rattle.stimulus.specs.Stimuli.{IsFormed, IsStimulus}
+use Rattle.ground_net.specs.declared.net.PortLeaf.{PortLeaf}
+use Rattle.ground_net.specs.Watching.{inputs}
+use Rattle.net_meaning.specs.Cycles as net_cycles
+use Rattle.snapshot_text.specs.declared.snapshot.Snapshot.{Snapshot}
+use Rattle.snapshot_text.specs.declared.fault.StateFault.{StateFault}
+use Rattle.snapshot_text.specs.Cells.{cells_of}
+use Rattle.snapshot_text.specs.Snapshots.{IsSnapshot}
+use Rattle.snapshot_text.specs.Faults.{IsFault as IsStateFault, place_of as place_in_state, rank_of as rank_in_state}
+use Rattle.state_texts.specs.Held.{IsStartOf}
+use Rattle.state_texts.specs.Texts.{IsResumedText, IsSavedText}
 use Rattle.cut_listing.specs.CircuitCuts.{IsCutText}
 use Rattle.refine_listing.specs.RefinedTexts.{IsRefinedText}
 use Rattle.circuit_dump.specs.Variables.{NamesNoLeaf}
@@ -30,10 +41,10 @@ use Rattle.sim_top.specs.declared.texts.WholeFault.TheVariants.{TooLong, NoStimu
 use Rattle.sim_top.specs.declared.judge.Reply.{Reply}
 use Rattle.sim_top.specs.declared.judge.Decision.{Decision}
 use Rattle.sim_top.specs.declared.judge.Decision.TheVariants as decision
-use Rattle.sim_top.specs.Commands.{Job, Run, Check, Widths, Cut, Refine, Vcd, job}
-use Rattle.sim_top.specs.Texts.{HasNone, IsPart, joined_limit, reads_all, stimulus_limit}
-use Rattle.sim_top.specs.Answers.{fault_bytes, whole_bytes, stimulus_bytes, whole_stimulus_bytes, RefusesStimulus, stimulus_too_long, stimulus_faulty, TakesStimulus, Runs, stimulus_refused, written, JudgesTexts, refused, accepted, listed, divided, refined, ran, watch_unknown, dumped, Judges, no_stimulus, circuit_too_long, taken}
-use Rattle.sim_top.specs.Endings.{Gives, IsFor}
+use Rattle.sim_top.specs.Commands.{StateText, Told, Too_long, joined_limit, state_limit, Job, Run, Check, Widths, Cut, Refine, Vcd, Save, Resume, job}
+use Rattle.sim_top.specs.Texts.{HasNone, IsPart, reads_all, stimulus_limit}
+use Rattle.sim_top.specs.Answers.{fault_bytes, whole_bytes, stimulus_bytes, whole_stimulus_bytes, RefusesStimulus, stimulus_too_long, stimulus_faulty, TakesStimulus, Runs, stimulus_refused, written, whole_state_bytes, state_bytes, RefusesState, state_too_long, state_faulty, TakesState, RunsFrom, given_refused, state_refused, begun, JudgesTexts, refused, accepted, listed, divided, refined, ran, watch_unknown, dumped, saved, resumed, Judges, no_stimulus, circuit_too_long, taken}
+use Rattle.sim_top.specs.Endings.{Gives, IsFor, IsStart, IsRunnable, IsSavable, IsResumable}
 
 -- what a decision has, it has of all that this is true of
 pub gives_more : (P Q : ℕ → List ℕ → Type 0) → ((s : ℕ) (b : List ℕ) → P s b → Q s b) → (d : Decision) → Gives P d → Gives Q d
@@ -41,6 +52,8 @@ gives_more P Q more (decision.Say reply) g = more _ _ g
 gives_more P Q more (decision.Run built settings watched) g = λ bytes t. more 0 bytes (g bytes t)
 gives_more P Q more (decision.Dump built settings numbers) g =
     record { names = g.names; numbered = g.numbered; dumped = λ bytes t. more 0 bytes (g.dumped bytes t) }
+gives_more P Q more (decision.Save built settings start) g = record { begin = g.begin; begins = g.begins; written = λ bytes t. more 0 bytes (g.written bytes t) }
+gives_more P Q more (decision.Resume built settings watched start) g = record { begin = g.begin; begins = g.begins; written = λ bytes t. more 0 bytes (g.written bytes t) }
 
 -- the parts of a joined text, the circuit's within its limit
 pub gives_part : (k : Job) (joined circuit stimulus : List ℕ) (d : Decision) → length joined ≤ joined_limit → IsPart k joined circuit stimulus
@@ -194,3 +207,93 @@ dump_taken names text stimulus built settings numbers b known numbered takes = r
 
 pub vcd_no_run : (names : List (List ℕ)) → Vcd names ≢ Run
 vcd_no_run names run = cc
+
+-- the snapshot of a text, or of none
+pub started : (built : Built) (state : Option (List ℕ)) (start : Snapshot) → IsStartOf built.ordered.net state start → IsStart built start
+started built None start s = record { few = let zero = s.0 in omega (arith, zero); state = net_cycles.first_state; holds = s.2 }
+started built (Some text) start s = record { few = s.read.few; state = s.state; holds = s.holds }
+
+-- a state's text, over the net of what was built
+abbrev pub RefusesTheState : Built → Option StateText → List ℕ → Type 0
+RefusesTheState built = RefusesState built.fitted.checked.resolved.names (design_of built.fitted)
+
+pub refuses_long_state : (built : Built) (bytes : List ℕ) → bytes ≡ whole_state_bytes TooLong first_place → RefusesTheState built (Some Too_long) bytes
+refuses_long_state built bytes e = rw e state_too_long
+
+-- what the reading of the state answered
+abbrev pub IsReadState : List ℕ → Built → Result Snapshot StateFault → Type 0
+IsReadState text built result = IsVerdict place_in_state rank_in_state (IsStateFault (cells_of built.ordered.net built.ports.inputs) text) (IsSnapshot built.ordered.net built.ports.inputs text) result
+
+pub refuses_state_fault : (circuit text : List ℕ) (built : Built) (fault : StateFault) (place : Place) (bytes : List ℕ) → IsBuilt circuit built → IsReadState text built (Err fault)
+    → place_in_state fault ≡ Some place → bytes ≡ state_bytes fault place → RefusesTheState built (Some (Told text)) bytes
+refuses_state_fault circuit text built fault place bytes b v at e = rw e
+    (⊎_elim (λ m. absurd (let n : None ≡ Some place = sym m ∙ at in cc))
+    (λ f. state_faulty text fault place
+    (record { net = built.ordered.net; of = b.ordered.serves.of; first = subst (λ (ls : List PortLeaf). IsFirst place_in_state rank_in_state (IsStateFault (cells_of built.ordered.net ls) text) fault) b.inputs f }) at) v.fault)
+
+pub takes_state : (circuit text : List ℕ) (built : Built) (start : Snapshot) → IsBuilt circuit built → IsReadState text built (Ok start) → IsStartOf built.ordered.net (Some text) start
+takes_state circuit text built start b v = subst (λ (ls : List PortLeaf). IsSnapshot built.ordered.net ls text start) b.inputs v.ok
+
+-- a run of what was built that begins with a state
+abbrev pub WritesFrom : Type 1
+WritesFrom = Option (List ℕ) → Stimulus → List ℕ → Type 0
+
+abbrev pub RunsFromStart : Built → WritesFrom → Option StateText → List ℕ → ℕ → List ℕ → Type 0
+RunsFromStart built Writes = RunsFrom built.fitted.checked.resolved.names (design_of built.fitted) Writes
+
+abbrev pub Saves : Built → WritesFrom
+Saves built state given = IsSavedText built.fitted.checked.resolved.names (design_of built.fitted) given state
+
+abbrev pub Resumes : Built → WritesFrom
+Resumes built state given = IsResumedText built.fitted.checked.resolved.names (design_of built.fitted) given state
+
+runs_refused : (built : Built) (Writes : WritesFrom) (begin : Option StateText) (stimulus : List ℕ) (status : ℕ) (bytes : List ℕ) → status ≡ 3 → Refuses built stimulus bytes
+    → RunsFromStart built Writes begin stimulus status bytes
+runs_refused built Writes begin stimulus status bytes three r = rw three (given_refused bytes r)
+
+runs_unstarted : (built : Built) (Writes : WritesFrom) (begin : Option StateText) (stimulus : List ℕ) (settings : Stimulus) (status : ℕ) (bytes : List ℕ) → status ≡ 3
+    → Takes built stimulus settings → RefusesTheState built begin bytes → RunsFromStart built Writes begin stimulus status bytes
+runs_unstarted built Writes begin stimulus settings status bytes three takes r = rw three (state_refused settings bytes takes r)
+
+pub save_refused : (begin : Option StateText) (text stimulus : List ℕ) (built : Built) (status : ℕ) (bytes : List ℕ) → IsBuilt text built → status ≡ 3 → Refuses built stimulus bytes
+    → JudgesTexts (Save begin) text stimulus status bytes
+save_refused begin text stimulus built status bytes b three r =
+    saved begin text stimulus built.fitted status bytes b.accepted (runs_refused built (Saves built) begin stimulus status bytes three r)
+
+pub save_unstarted : (begin : Option StateText) (text stimulus : List ℕ) (built : Built) (settings : Stimulus) (status : ℕ) (bytes : List ℕ) → IsBuilt text built → status ≡ 3
+    → Takes built stimulus settings → RefusesTheState built begin bytes → JudgesTexts (Save begin) text stimulus status bytes
+save_unstarted begin text stimulus built settings status bytes b three takes r =
+    saved begin text stimulus built.fitted status bytes b.accepted (runs_unstarted built (Saves built) begin stimulus settings status bytes three takes r)
+
+pub save_begun : (begin : Option StateText) (state : Option (List ℕ)) (text stimulus : List ℕ) (built : Built) (settings : Stimulus) (start : Snapshot) → IsBuilt text built
+    → Takes built stimulus settings → TakesState begin state → IsStartOf built.ordered.net state start → Gives (JudgesTexts (Save begin) text stimulus) (decision.Save built settings start)
+save_begun begin state text stimulus built settings start b takes of begins = record {
+  begin = state;
+  begins = begins;
+  written = λ bytes w. saved begin text stimulus built.fitted 0 bytes b.accepted (begun settings state bytes takes of w);
+}
+
+pub resume_refused : (begin : StateText) (text stimulus : List ℕ) (built : Built) (status : ℕ) (bytes : List ℕ) → IsBuilt text built → status ≡ 3 → Refuses built stimulus bytes
+    → JudgesTexts (Resume begin) text stimulus status bytes
+resume_refused begin text stimulus built status bytes b three r =
+    resumed begin text stimulus built.fitted status bytes b.accepted (runs_refused built (Resumes built) (Some begin) stimulus status bytes three r)
+
+pub resume_unstarted : (begin : StateText) (text stimulus : List ℕ) (built : Built) (settings : Stimulus) (status : ℕ) (bytes : List ℕ) → IsBuilt text built → status ≡ 3
+    → Takes built stimulus settings → RefusesTheState built (Some begin) bytes → JudgesTexts (Resume begin) text stimulus status bytes
+resume_unstarted begin text stimulus built settings status bytes b three takes r =
+    resumed begin text stimulus built.fitted status bytes b.accepted (runs_unstarted built (Resumes built) (Some begin) stimulus settings status bytes three takes r)
+
+pub resume_begun : (begin : StateText) (state : Option (List ℕ)) (text stimulus : List ℕ) (built : Built) (settings : Stimulus) (watched : List ℕ) (start : Snapshot) → IsBuilt text built
+    → Takes built stimulus settings → TakesState (Some begin) state → IsStartOf built.ordered.net state start
+    → Gives (JudgesTexts (Resume begin) text stimulus) (decision.Resume built settings watched start)
+resume_begun begin state text stimulus built settings watched start b takes of begins = record {
+  begin = state;
+  begins = begins;
+  written = λ bytes w. resumed begin text stimulus built.fitted 0 bytes b.accepted (begun settings state bytes takes of w);
+}
+
+pub save_no_run : (begin : Option StateText) → Save begin ≢ Run
+save_no_run begin run = cc
+
+pub resume_no_run : (begin : StateText) → Resume begin ≢ Run
+resume_no_run begin run = cc

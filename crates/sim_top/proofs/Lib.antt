@@ -6,3 +6,4 @@ pub mod Judging
 pub mod Naming
 pub mod Replying
 pub mod EmptyText
+pub mod Apart

@@ -1,13 +1,17 @@
 -- What a reply is, and how a call ends that gives it.
 use Rattle.std.proofs.Common.{◌≡◌, ◌≢◌, ℕ, ◌<◌, ◌≤◌, length, List, [], ◌++◌, ◌⊎◌, inl, inr, ⊎_elim, Option, take, refl, sym, ap, ◌∙◌, subst, arith}
-use Rattle.std.specs.Prelude.{codes, Some, None, Result, Err}
-use Rattle.std.proofs.lemmas.Bool.{cases_eq}
+use Rattle.std.specs.Prelude.{codes, Some, None, Result, Err, if◌then◌else◌}
+use Rattle.std.proofs.lemmas.Bool.{cases_eq, le-leb, lt-leb}
 use Rattle.std.proofs.lemmas.Grind.{common_steps}
 use Rattle.place_text.specs.Places.{first_place}
 use Rattle.fir_tree.specs.LeafNames.{Texts}
 use Rattle.stimulus.specs.declared.stimulus.Stimulus.{Stimulus}
+use Rattle.stimulus.specs.Stimuli.{IsFormed}
+use Rattle.sim_engine.specs.Building.{IsBuilt}
 use Rattle.sim_engine.specs.declared.compile.Built.{Built}
 use Rattle.circuit_run.specs.NetRuns.{IsPlanned}
+use Rattle.circuit_run.proofs.Writing.{nothing_written}
+use Rattle.snapshot_text.specs.declared.snapshot.Snapshot.{Snapshot}
 use Rattle.circuit_run.specs.Traces.{IsTraceText}
 use Rattle.fir_meaning.specs.Components.{Design, design_of}
 use Rattle.shelf_io.specs.Outside.{Appends, Rose}
@@ -19,10 +23,10 @@ use Rattle.sim_top.specs.declared.texts.WholeFault.TheVariants.{TooLong, NoStimu
 use Rattle.sim_top.specs.declared.judge.Reply.{Reply}
 use Rattle.sim_top.specs.declared.judge.Decision.{Decision}
 use Rattle.sim_top.specs.declared.judge.Decision.TheVariants as decision
-use Rattle.sim_top.specs.Commands.{Job, Run, Check, Widths, Cut, Refine, Vcd, Question, Of_joined, Of_two, Of_made, asked_by, NeedsFor, the_joined, the_circuit, the_stimulus, Needs}
-use Rattle.sim_top.specs.Texts.{joined_limit}
-use Rattle.sim_top.specs.Answers.{whole_bytes, RefusesStimulus, stimulus_too_long, stimulus_faulty, Runs, stimulus_refused, written, JudgesTexts, refused, accepted, listed, divided, refined, ran, watch_unknown, dumped, Judges, joined_too_long, no_stimulus, circuit_too_long, taken, AnswersTo, of_joined, of_long_circuit, of_two, of_made, of_made_refused, Answers, no_command, answered}
-use Rattle.sim_top.specs.Endings.{Ends, IsSaid, IsRun, IsFaultLine, of_circuit, of_whole, of_stimulus, of_whole_stimulus, IsReply, Gives, IsFor, IsReady, IsRunnable, IsDumpable, status_of}
+use Rattle.sim_top.specs.declared.words.Keeping.{Keeping}
+use Rattle.sim_top.specs.Commands.{StateText, Told as Told_text, Too_long, told, joined_limit, state_limit, Job, Run, Check, Widths, Cut, Refine, Vcd, Save, Resume, job_from, Question, Of_joined, Of_two, Of_state, Of_made, asked_by, NeedsFor, the_joined, the_circuit, the_stimulus, the_held, the_state, Needs}
+use Rattle.sim_top.specs.Answers.{whole_bytes, RefusesStimulus, stimulus_too_long, stimulus_faulty, Runs, stimulus_refused, written, RefusesState, state_too_long, state_faulty, RunsFrom, given_refused, state_refused, begun, JudgesTexts, refused, accepted, listed, divided, refined, ran, watch_unknown, dumped, saved, resumed, Judges, joined_too_long, no_stimulus, circuit_too_long, taken, AnswersTo, of_joined, of_long_circuit, of_two, of_long_joined, of_state as of_a_state, of_made, of_made_refused, Answers, no_command, answered}
+use Rattle.sim_top.specs.Endings.{Ends, IsSaid, IsRun, IsWritten, IsFaultLine, of_circuit, of_whole, of_stimulus, of_whole_stimulus, of_state, of_whole_state, IsReply, Gives, IsFor, IsReady, IsRunnable, IsDumpable, IsSavable, IsResumable, status_of}
 use Rattle.sim_top.proofs.AnswersOnce.{some_same, no_reading, answers_once}
 use Rattle.sim_top.proofs.Judging.{gives_more}
 
@@ -38,6 +42,16 @@ ran_told : (texts : Texts) (design : Design) (Writes : Stimulus → List ℕ →
 ran_told texts design Writes stimulus _ b (stimulus_refused _ r) = inr (refusal_line texts design stimulus b r)
 ran_told texts design Writes stimulus _ _ (written settings bytes t w) = inl refl
 
+state_line : (texts : Texts) (design : Design) (begin : Option StateText) (b : List ℕ) → RefusesState texts design begin b → IsFaultLine 3 b
+state_line texts design _ _ state_too_long = of_whole_state TooLong first_place
+state_line texts design _ _ (state_faulty state fault place f at) = of_state fault place
+
+begun_told : (texts : Texts) (design : Design) (Writes : Option (List ℕ) → Stimulus → List ℕ → Type 0) (begin : Option StateText) (stimulus : List ℕ) (s : ℕ) (b : List ℕ)
+    → RunsFrom texts design Writes begin stimulus s b → Told s b
+begun_told texts design Writes begin stimulus _ b (given_refused _ r) = inr (refusal_line texts design stimulus b r)
+begun_told texts design Writes begin stimulus _ b (state_refused settings _ t r) = inr (state_line texts design begin b r)
+begun_told texts design Writes begin stimulus _ _ (begun settings state bytes t of w) = inl refl
+
 texts_told : (job : Job) (text stimulus : List ℕ) (s : ℕ) (b : List ℕ) → JudgesTexts job text stimulus s b → Told s b
 texts_told job text stimulus _ _ (refused _ _ _ fault p f at) = inr (of_circuit fault p)
 texts_told Check text stimulus _ _ (accepted _ _ fitted a) = inl refl
@@ -47,6 +61,8 @@ texts_told (Refine workers) text stimulus _ _ (refined _ _ _ fitted _ a cuts) = 
 texts_told Run text stimulus s b (ran _ _ fitted _ _ a r) = ran_told fitted.checked.resolved.names _ _ stimulus s b r
 texts_told (Vcd names) text stimulus _ _ (watch_unknown _ _ _ fitted a none) = inr (of_whole WatchUnknown first_place)
 texts_told (Vcd names) text stimulus s b (dumped _ _ _ fitted _ _ a known r) = ran_told fitted.checked.resolved.names _ _ stimulus s b r
+texts_told (Save begin) text stimulus s b (saved _ _ _ fitted _ _ a r) = begun_told fitted.checked.resolved.names _ _ begin stimulus s b r
+texts_told (Resume begin) text stimulus s b (resumed _ _ _ fitted _ _ a r) = begun_told fitted.checked.resolved.names _ _ (Some begin) stimulus s b r
 
 judged_told : (job : Job) (joined : List ℕ) (s : ℕ) (b : List ℕ) → Judges job joined s b → Told s b
 judged_told job joined _ _ (joined_too_long _ _ l) = inr (of_whole TooLong first_place)
@@ -59,6 +75,8 @@ line_status _ _ (of_circuit fault p) = (omega arith, omega arith)
 line_status _ _ (of_whole fault p) = (omega arith, omega arith)
 line_status _ _ (of_stimulus fault p) = (omega arith, omega arith)
 line_status _ _ (of_whole_stimulus fault p) = (omega arith, omega arith)
+line_status _ _ (of_state fault p) = (omega arith, omega arith)
+line_status _ _ (of_whole_state fault p) = (omega arith, omega arith)
 
 pub line_usage : (s : ℕ) (b : List ℕ) → IsFaultLine s b → s ≡ 1 → ⊥
 line_usage s b line one = let two = (line_status s b line).0 in omega (arith, one, two)
@@ -78,11 +96,15 @@ pub ready_decision : (job : Job) (joined : List ℕ) (d : Decision) → Gives (J
 ready_decision job joined (decision.Say reply) s run = judged_reply job joined _ _ s
 ready_decision job joined (decision.Run built settings watched) s run = run
 ready_decision job joined (decision.Dump built settings numbers) s run = run.1
+ready_decision job joined (decision.Save built settings start) s run = run.1
+ready_decision job joined (decision.Resume built settings watched start) s run = run.1
 
 pub no_usage : (job : Job) (joined : List ℕ) (d : Decision) → Gives (Judges job joined) d → status_of d ≡ 1 → ⊥
 no_usage job joined (decision.Say reply) s one = told_usage _ _ (judged_told job joined _ _ s) one
 no_usage job joined (decision.Run built settings watched) s one = cc
 no_usage job joined (decision.Dump built settings numbers) s one = cc
+no_usage job joined (decision.Save built settings start) s one = cc
+no_usage job joined (decision.Resume built settings watched start) s one = cc
 
 texts_ready : (text stimulus : List ℕ) (s : ℕ) (b : List ℕ) → JudgesTexts Run text stimulus s b → IsReply s b
 texts_ready text stimulus s b j = ⊎_elim (λ zero. inl zero) (λ line. inr (inr line)) (texts_told Run text stimulus s b j)
@@ -91,11 +113,15 @@ pub ready_texts : (text stimulus : List ℕ) (d : Decision) → Gives (JudgesTex
 ready_texts text stimulus (decision.Say reply) s run = texts_ready text stimulus _ _ s
 ready_texts text stimulus (decision.Run built settings watched) s run = run
 ready_texts text stimulus (decision.Dump built settings numbers) s run = run.1
+ready_texts text stimulus (decision.Save built settings start) s run = run.1
+ready_texts text stimulus (decision.Resume built settings watched start) s run = run.1
 
 pub no_usage_texts : (text stimulus : List ℕ) (d : Decision) → Gives (JudgesTexts Run text stimulus) d → status_of d ≡ 1 → ⊥
 no_usage_texts text stimulus (decision.Say reply) s one = told_usage _ _ (texts_told Run text stimulus _ _ s) one
 no_usage_texts text stimulus (decision.Run built settings watched) s one = cc
 no_usage_texts text stimulus (decision.Dump built settings numbers) s one = cc
+no_usage_texts text stimulus (decision.Save built settings start) s one = cc
+no_usage_texts text stimulus (decision.Resume built settings watched start) s one = cc
 
 pub usage_ready : (b : List ℕ) → b ≡ codes "usage\n" → IsReply 1 b
 usage_ready b e = inr (inl (refl, e))
@@ -120,6 +146,22 @@ texts_answer texts circuit stimulus text given d held short told j =
 pub circuit_answers : (texts : List ℕ → Option (List ℕ)) (circuit stimulus text : List ℕ) (s : ℕ) (b : List ℕ) → texts circuit ≡ Some text → circuit_limit < length text → s ≡ 2
     → b ≡ whole_bytes TooLong first_place → AnswersTo texts (Of_two circuit stimulus) s b
 circuit_answers texts circuit stimulus text s b held long two e = rw (two, e) (of_long_circuit circuit stimulus text held long)
+
+pub state_answers : (texts : List ℕ → Option (List ℕ)) (keeping : Keeping) (circuit state joined text : List ℕ) (d : Decision) → texts circuit ≡ Some joined → length joined ≤ joined_limit
+    → texts state ≡ Some text → Gives (Judges (job_from keeping (told text)) joined) d → Gives (AnswersTo texts (Of_state keeping circuit state)) d
+state_answers texts keeping circuit state joined text d held short given j =
+    gives_more (Judges (job_from keeping (told text)) joined) (AnswersTo texts (Of_state keeping circuit state)) (λ s b. of_a_state keeping circuit state joined text s b held short given) d j
+
+pub long_state_answers : (texts : List ℕ → Option (List ℕ)) (keeping : Keeping) (circuit state joined : List ℕ) (s : ℕ) (b : List ℕ) → texts circuit ≡ Some joined → joined_limit < length joined
+    → s ≡ 2 → b ≡ whole_bytes TooLong first_place → AnswersTo texts (Of_state keeping circuit state) s b
+long_state_answers texts keeping circuit state joined s b held long two e = rw (two, e) (of_long_joined keeping circuit state joined held long)
+
+-- what a job has of a state's text, by its length
+pub told_whole : (text : List ℕ) → length text ≤ state_limit → told text ≡ Told_text text
+told_whole text short = ap (λ b. if b then Told_text text else Too_long) (le-leb (length text) state_limit short)
+
+pub told_long : (text : List ℕ) → state_limit < length text → told text ≡ Too_long
+told_long text long = ap (λ b. if b then Told_text text else Too_long) (lt-leb (length text) state_limit long)
 
 -- what is decided for a text that is made
 abbrev pub IsMade : ℕ → ℕ → Decision → Type 0
@@ -149,10 +191,6 @@ made_run texts cycles size d built settings watched trace b s e made zero told s
     let ran = subst (IsMade cycles size) e made in
     subst (λ (k : ℕ). AnswersTo texts (Of_made cycles size) k b) (sym zero) (of_made cycles size trace b (ran.0 trace told) sums)
 
--- of a text that is made nothing is dumped
-pub made_dump : (cycles size : ℕ) (d : Decision) (built : Built) (settings : Stimulus) (numbers : List ℕ) → d ≡ decision.Dump built settings numbers → IsFor Run d → ⊥
-made_dump cycles size d built settings numbers e fits = (subst (IsFor Run) e fits).0 refl
-
 -- and for words
 pub usage_answers : (words : List (List ℕ)) (texts : List ℕ → Option (List ℕ)) (b : List ℕ) → asked_by words ≡ None → b ≡ codes "usage\n" → Answers words texts 1 b
 usage_answers words texts b none e = rw e (no_command words texts none)
@@ -180,6 +218,13 @@ ends_said words texts status result bytes before old new answers few said told =
       within = ⊎_elim (λ five. omega arith) (λ n. let s = same n in omega arith) (cases_eq result 5);
     }
 
+-- how writing a text ends
+abbrev pub IsWritingStatus : ℕ → Type 0
+IsWritingStatus result = (result ≡ 0) ⊎ (result ≡ 5) ⊎ (result ≡ 6)
+
+written_whole : (result : ℕ) → IsWritingStatus result → result ≤ 3 → result ≡ 0
+written_whole result status few = ⊎_elim (λ z. z) (λ more. ⊎_elim (λ five. absurd (omega (arith, few, five))) (λ six. absurd (omega (arith, few, six))) more) status
+
 -- the trace was written, or a prefix of it
 pub ends_run : (words : List (List ℕ)) (texts : List ℕ → Option (List ℕ)) (result : ℕ) (bytes before : List ℕ) (old new : Option (List ℕ))
     → Answers words texts 0 bytes → IsRun result bytes old new → old ≡ Some before → Ends words texts result before new
@@ -201,6 +246,32 @@ ends_run words texts result bytes before old new answers run told = record {
   where
     zero : result ≤ 3 → result ≡ 0
     zero le = ⊎_elim (λ z. z) (λ more. ⊎_elim (λ five. absurd (omega (arith, le, five))) (λ six. absurd (omega (arith, le, six))) more) run.status
+
+-- the text of a state was written, or a prefix of it, or nothing
+pub ends_written : (words : List (List ℕ)) (texts : List ℕ → Option (List ℕ)) (IsText : List ℕ → Type 0) (result : ℕ) (before : List ℕ) (old new : Option (List ℕ))
+    → ((bytes : List ℕ) → IsText bytes → Answers words texts 0 bytes) → IsWritten IsText result old new → IsWritingStatus result → old ≡ Some before → Ends words texts result before new
+ends_written words texts IsText result before old new answers put status told_before = record {
+  answered = λ le. let z = written_whole result status le in let p = put.all z in (p.0, rw z (answers p.0 p.1), appended old new before p.0 told_before p.2);
+  only = λ le other others a. let z = written_whole result status le in let p = put.all z in let o = answers_once words texts 0 other p.0 others (answers p.0 p.1) a in
+      (sym o.0 ∙ sym z, appended old new before p.0 told_before p.2 ∙ ap (λ xs. Some (before ++ xs)) o.1);
+  shelf_faulted = λ e. absurd (⊎_elim (λ z. omega (arith, e, z)) (λ more. ⊎_elim (λ five. omega (arith, e, five)) (λ six. omega (arith, e, six)) more) status);
+  sink_faulted = λ e. let p = put.part e in (0, p.0, p.2, answers p.0 p.1, appended old new before _ told_before p.3);
+  memory_wanted = λ e. (0, [], appended old new before [] told_before (put.nothing e), (λ code bytes a. refl), λ none. refl);
+  within = ⊎_elim (λ z. omega (arith, z)) (λ more. ⊎_elim (λ five. omega (arith, five)) (λ six. omega (arith, six)) more) status;
+}
+
+pub written_answered : (words : List (List ℕ)) (texts : List ℕ → Option (List ℕ)) (IsText : List ℕ → Type 0) (result : ℕ) (old new : Option (List ℕ))
+    → ((bytes : List ℕ) → IsText bytes → Answers words texts 0 bytes) → IsWritten IsText result old new → IsWritingStatus result → result ≤ 3 → (others : List ℕ) × Answers words texts result others
+written_answered words texts IsText result old new answers put status few =
+    let z = written_whole result status few in let p = put.all z in (p.0, subst (λ x. Answers words texts x p.0) (sym z) (answers p.0 p.1))
+
+-- where there is no answer memory was wanted
+pub unwritten : (words : List (List ℕ)) (texts : List ℕ → Option (List ℕ)) (IsText : List ℕ → Type 0) (result : ℕ) (old new : Option (List ℕ))
+    → ((bytes : List ℕ) → IsText bytes → Answers words texts 0 bytes) → IsWritten IsText result old new → IsWritingStatus result → ((bytes : List ℕ) → Answers words texts 0 bytes → ⊥)
+    → (result ≡ 4) ⊎ (result ≡ 6)
+unwritten words texts IsText result old new answers put status none = ⊎_elim
+    (λ z. let p = put.all z in absurd (none p.0 (answers p.0 p.1)))
+    (λ more. ⊎_elim (λ five. let p = put.part five in absurd (none p.0 (answers p.0 p.1))) (λ six. inr six) more) status
 
 pub said_few : (status result : ℕ) (bytes : List ℕ) (old new : Option (List ℕ)) → status ≤ 3 → IsSaid result status bytes old new → result ≤ 6
 said_few status result bytes old new few said = ⊎_elim (λ five. omega arith) (λ n. let s = (said.all n).0 in omega arith) (cases_eq result 5)
@@ -286,6 +357,11 @@ unheld_asked texts held (Of_two circuit stimulus) _ s b told (the_circuit _ _) n
 unheld_asked texts held (Of_two circuit stimulus) _ _ _ told (the_stimulus _ _ short) none (of_long_circuit _ _ text h l) =
     let le = short texts text told h in omega (arith, l, le)
 unheld_asked texts held (Of_two circuit stimulus) _ s b told (the_stimulus _ _ short) none (of_two _ _ text given _ _ h l g j) = let f : None ≡ Some given = sym none ∙ g in cc
+unheld_asked texts held (Of_state keeping circuit state) _ _ _ same (the_held _ _ _) none (of_long_joined _ _ _ joined h l) = let f : None ≡ Some joined = sym none ∙ h in cc
+unheld_asked texts held (Of_state keeping circuit state) _ s b same (the_held _ _ _) none (of_a_state _ _ _ joined text _ _ h l g j) = let f : None ≡ Some joined = sym none ∙ h in cc
+unheld_asked texts held (Of_state keeping circuit state) _ _ _ same (the_state _ _ _ short) none (of_long_joined _ _ _ joined h l) =
+    let le = short texts joined same h in omega (arith, l, le)
+unheld_asked texts held (Of_state keeping circuit state) _ s b same (the_state _ _ _ short) none (of_a_state _ _ _ joined text _ _ h l g j) = let f : None ≡ Some text = sym none ∙ g in cc
 unheld_asked texts held (Of_made cycles size) name s b told needs none answers = elim needs [ ]
 
 pub unheld_unanswered : (words : List (List ℕ)) (texts : List ℕ → Option (List ℕ)) (held : Option (List ℕ → Option (List ℕ))) (name : List ℕ) (s : ℕ) (b : List ℕ) → held ≡ Some texts
@@ -309,24 +385,32 @@ run_cut result bytes old new status part = record {
   part = λ n. part;
 }
 
--- what was built can be run
+-- what was built can be run under a stimulus that was read for it
+built_planned : (text : List ℕ) (built : Built) (stimulus : Stimulus) → IsBuilt text built → IsFormed built.ports stimulus → IsPlanned built.ordered built.ports stimulus
+built_planned text built stimulus b formed = record { net = b.ordered.serves.of.well_formed; order = b.ordered.sequence; fed = b.inputs; seen = b.watched; formed = formed }
+
 pub planned : (built : Built) (stimulus : Stimulus) (watched : List ℕ) → IsRunnable built stimulus watched → IsPlanned built.ordered built.ports stimulus
-planned built stimulus watched runnable = record {
-  net = runnable.is_built.ordered.serves.of.well_formed;
-  order = runnable.is_built.ordered.sequence;
-  fed = runnable.is_built.inputs;
-  seen = runnable.is_built.watched;
-  formed = runnable.formed;
-}
+planned built stimulus watched runnable = built_planned runnable.text built stimulus runnable.is_built runnable.formed
 
 pub dump_planned : (built : Built) (stimulus : Stimulus) (numbers : List ℕ) → IsDumpable built stimulus numbers → IsPlanned built.ordered built.ports stimulus
-dump_planned built stimulus numbers dumpable = record {
-  net = dumpable.is_built.ordered.serves.of.well_formed;
-  order = dumpable.is_built.ordered.sequence;
-  fed = dumpable.is_built.inputs;
-  seen = dumpable.is_built.watched;
-  formed = dumpable.formed;
+dump_planned built stimulus numbers dumpable = built_planned dumpable.text built stimulus dumpable.is_built dumpable.formed
+
+pub save_planned : (built : Built) (stimulus : Stimulus) (start : Snapshot) → IsSavable built stimulus start → IsPlanned built.ordered built.ports stimulus
+save_planned built stimulus start savable = built_planned savable.text built stimulus savable.is_built savable.formed
+
+-- how the text of a state was written
+pub written_said : (IsText : List ℕ → Type 0) (result : ℕ) (bytes : List ℕ) (old new : Option (List ℕ)) → IsText bytes → IsSaid result 0 bytes old new → IsWritten IsText result old new
+written_said IsText result bytes old new is said = record {
+  all = λ zero. let n : result ≢ 5 = omega (arith, zero) in (bytes, is, (said.all n).1);
+  part = λ five. (bytes, is, said.part five);
+  nothing = λ six. let n : result ≢ 5 = omega (arith, six) in let z = (said.all n).0 in absurd (omega (arith, six, z));
 }
+
+pub written_none : (IsText : List ℕ → Type 0) (old : Option (List ℕ)) → IsWritten IsText 6 old old
+written_none IsText old = record { all = λ zero. absurd (omega (arith, zero)); part = λ five. absurd (omega (arith, five)); nothing = λ six. nothing_written old }
+
+pub said_status : (result : ℕ) (bytes : List ℕ) (old new : Option (List ℕ)) → IsSaid result 0 bytes old new → IsWritingStatus result
+said_status result bytes old new said = ⊎_elim (λ five. inr (inl five)) (λ n. inl (said.all n).0) (cases_eq result 5)
 
 -- where it failed, its count rose
 pub said_rose : (status result : ℕ) (Failed : Type 0) → status ≤ 3 → (result ≢ status → Failed) → result ≡ 5 → Failed

@@ -1,8 +1,8 @@
 -- What the program is to answer: a status and the bytes that are written.
-use Rattle.std.specs.Prelude.{◌≡◌, ◌≢◌, ℕ, ◌<◌, ◌≤◌, false, List, length, Option, Some, None, codes}
+use Rattle.std.specs.Prelude.{◌≡◌, ◌≢◌, ℕ, ◌<◌, ◌≤◌, false, List, length, Option, Some, None, option_map, codes}
 use Rattle.place_text.specs.Places.{fault_line_bytes, first_place}
 use Rattle.place_text.specs.declared.place.Place.{Place}
-use Rattle.place_text.specs.declared.place.TextPart.TheVariants.{Circuit as Circuit_part, Stimulus as Stimulus_part}
+use Rattle.place_text.specs.declared.place.TextPart.TheVariants.{Circuit as Circuit_part, Stimulus as Stimulus_part, State as State_part}
 use Rattle.fault_order.specs.First.{IsFirst, HasNone as HasNoFault}
 use Rattle.fir_tree.specs.LeafNames.{Texts}
 use Rattle.fir_tree.specs.declared.scope.Fitted.{Fitted}
@@ -21,16 +21,21 @@ use Rattle.cut_listing.specs.CircuitCuts.{IsCutText}
 use Rattle.refine_listing.specs.RefinedTexts.{IsRefinedText}
 use Rattle.circuit_dump.specs.Variables.{NamesNoLeaf}
 use Rattle.circuit_dump.specs.VcdTexts.{IsVcdText}
+use Rattle.snapshot_text.specs.declared.fault.StateFault.{StateFault}
+use Rattle.snapshot_text.specs.Faults.{place_of as place_in_state, kind_of as kind_in_state}
+use Rattle.state_texts.specs.Held.{IsFirstStateFault}
+use Rattle.state_texts.specs.Texts.{IsResumedText, IsSavedText}
 use Rattle.sim_engine.specs.Stages.{circuit_limit, IsAccepted, IsFirstFault}
 use Rattle.sim_engine.specs.Faults.{kind_name, fault_place}
 use Rattle.sim_engine.specs.declared.fault.CircuitFault.{CircuitFault}
 use Rattle.sim_top.specs.declared.texts.WholeFault.{WholeFault}
 use Rattle.sim_top.specs.declared.texts.WholeFault.TheVariants.{TooLong, NoStimulus, WatchUnknown}
-use Rattle.sim_top.specs.Commands.{Job, Run, Check, Widths, Cut, Refine, Vcd, Question, Of_joined, Of_two, Of_made, asked_by}
-use Rattle.sim_top.specs.Texts.{joined_limit, stimulus_limit, whole_name, reads_all, HasNone, IsPart, IsTaken}
+use Rattle.sim_top.specs.Commands.{StateText, Told, Too_long, told, joined_limit, Job, Run, Check, Widths, Cut, Refine, Vcd, Save, Resume, job_from, Question, Of_joined, Of_two, Of_state, Of_made, asked_by}
+use Rattle.sim_top.specs.declared.words.Keeping.{Keeping}
+use Rattle.sim_top.specs.Texts.{stimulus_limit, whole_name, reads_all, HasNone, IsPart, IsTaken}
 
--- The lines of faults: of a fault of the circuit, of one of its text as a whole or of the words, of a fault of the stimulus, and of one of its text as a
--- whole.
+-- The lines of faults: of a fault of the circuit, of one of its text as a whole or of the words, of a fault of the stimulus, of one of its text as a
+-- whole, and the same of a state.
 abbrev pub fault_bytes : CircuitFault → Place → List ℕ
 fault_bytes fault there' = fault_line_bytes Circuit_part (kind_name fault) there'
 
@@ -42,6 +47,12 @@ stimulus_bytes fault there' = fault_line_bytes Stimulus_part (kind_of fault) the
 
 abbrev pub whole_stimulus_bytes : WholeFault → Place → List ℕ
 whole_stimulus_bytes fault there' = fault_line_bytes Stimulus_part (whole_name fault) there'
+
+abbrev pub state_bytes : StateFault → Place → List ℕ
+state_bytes fault there' = fault_line_bytes State_part (kind_in_state fault) there'
+
+abbrev pub whole_state_bytes : WholeFault → Place → List ℕ
+whole_state_bytes fault there' = fault_line_bytes State_part (whole_name fault) there'
 
 -- What the text of a stimulus is refused with for a circuit that is run: that it is too long, or its first fault.
 pub data RefusesStimulus (texts : Texts) (design : Design) (text : List ℕ) : List ℕ → Type 0 where
@@ -62,9 +73,29 @@ pub data Runs (texts : Texts) (design : Design) (Writes : Stimulus → List ℕ 
   stimulus_refused : (bytes : List ℕ) → RefusesStimulus texts design text bytes → Runs texts design Writes text 3 bytes
   written : (stimulus : Stimulus) (bytes : List ℕ) → TakesStimulus texts design text stimulus → Writes stimulus bytes → Runs texts design Writes text 0 bytes
 
+-- What the text of a state is refused with for a circuit: that it is too long, or its first fault.
+pub data RefusesState (texts : Texts) (design : Design) : Option StateText → List ℕ → Type 0 where
+  state_too_long : RefusesState texts design (Some Too_long) (whole_state_bytes TooLong first_place)
+  state_faulty : (state : List ℕ) (fault : StateFault) (there' : Place) → IsFirstStateFault texts design state fault → place_in_state fault ≡ Some there'
+      → RefusesState texts design (Some (Told state)) (state_bytes fault there')
+
+-- The text of the state with which a run begins, where there is one.
+pub data TakesState : Option StateText → Option (List ℕ) → Type 0 where
+  no_state : TakesState None None
+  told_state : (state : List ℕ) → TakesState (Some (Told state)) (Some state)
+
+-- What a run of a circuit that begins with a state, or where there is none with all 0, answers to the text of a stimulus, where this relation
+-- says what is written under a stimulus. The state is judged behind the stimulus.
+pub data RunsFrom (texts : Texts) (design : Design) (Writes : Option (List ℕ) → Stimulus → List ℕ → Type 0) (begin : Option StateText) (text : List ℕ) : ℕ → List ℕ → Type 0 where
+  given_refused : (bytes : List ℕ) → RefusesStimulus texts design text bytes → RunsFrom texts design Writes begin text 3 bytes
+  state_refused : (stimulus : Stimulus) (bytes : List ℕ) → TakesStimulus texts design text stimulus → RefusesState texts design begin bytes
+      → RunsFrom texts design Writes begin text 3 bytes
+  begun : (stimulus : Stimulus) (state : Option (List ℕ)) (bytes : List ℕ) → TakesStimulus texts design text stimulus → TakesState begin state → Writes state stimulus bytes
+      → RunsFrom texts design Writes begin text 0 bytes
+
 -- What is answered where the circuit's text was taken: its first fault; or for `check` that there is none, for `widths` the listing, for `cut` the
--- circuit's cut, for `refine` the refined one, for `run` what a run of the circuit answers, and for `vcd` that a word names no leaf, or what a
--- run answers that is dumped.
+-- circuit's cut, for `refine` the refined one, for `run` what a run of the circuit answers, for `vcd` that a word names no leaf, or what a
+-- run answers that is dumped; for `save` what a run answers whose state is written, and for `resume` what one answers that goes on from a state.
 pub data JudgesTexts : Job → List ℕ → List ℕ → ℕ → List ℕ → Type 0 where
   refused : (job : Job) (text stimulus : List ℕ) (fault : CircuitFault) (there' : Place) → IsFirstFault text fault → fault_place fault ≡ Some there'
       → JudgesTexts job text stimulus 2 (fault_bytes fault there')
@@ -83,6 +114,12 @@ pub data JudgesTexts : Job → List ℕ → List ℕ → ℕ → List ℕ → Ty
       → (NamesNoLeaf fitted.checked.resolved.names (design_of fitted) names → ⊥)
       → Runs fitted.checked.resolved.names (design_of fitted) (IsVcdText fitted.checked.resolved.names (design_of fitted) names) stimulus status bytes
       → JudgesTexts (Vcd names) text stimulus status bytes
+  saved : (begin : Option StateText) (text stimulus : List ℕ) (fitted : Fitted) (status : ℕ) (bytes : List ℕ) → IsAccepted text fitted
+      → RunsFrom fitted.checked.resolved.names (design_of fitted) (λ state given. IsSavedText fitted.checked.resolved.names (design_of fitted) given state) begin stimulus status bytes
+      → JudgesTexts (Save begin) text stimulus status bytes
+  resumed : (begin : StateText) (text stimulus : List ℕ) (fitted : Fitted) (status : ℕ) (bytes : List ℕ) → IsAccepted text fitted
+      → RunsFrom fitted.checked.resolved.names (design_of fitted) (λ state given. IsResumedText fitted.checked.resolved.names (design_of fitted) given state) (Some begin) stimulus status bytes
+      → JudgesTexts (Resume begin) text stimulus status bytes
 
 -- What is answered to a joined text. Of the faults of the text as a whole the first in this order counts.
 pub data Judges : Job → List ℕ → ℕ → List ℕ → Type 0 where
@@ -103,6 +140,10 @@ pub data AnswersTo (texts : List ℕ → Option (List ℕ)) : Question → ℕ �
       → AnswersTo texts (Of_two circuit stimulus) 2 (whole_bytes TooLong first_place)
   of_two : (circuit stimulus text given : List ℕ) (status : ℕ) (bytes : List ℕ) → texts circuit ≡ Some text → length text ≤ circuit_limit
       → texts stimulus ≡ Some given → JudgesTexts Run text given status bytes → AnswersTo texts (Of_two circuit stimulus) status bytes
+  of_long_joined : (keeping : Keeping) (circuit state joined : List ℕ) → texts circuit ≡ Some joined → joined_limit < length joined
+      → AnswersTo texts (Of_state keeping circuit state) 2 (whole_bytes TooLong first_place)
+  of_state : (keeping : Keeping) (circuit state joined text : List ℕ) (status : ℕ) (bytes : List ℕ) → texts circuit ≡ Some joined → length joined ≤ joined_limit
+      → texts state ≡ Some text → Judges (job_from keeping (told text)) joined status bytes → AnswersTo texts (Of_state keeping circuit state) status bytes
   of_made : (cycles size : ℕ) (trace summary : List ℕ) → Judges Run (ring_text size cycles) 0 trace → IsSummary trace summary
       → AnswersTo texts (Of_made cycles size) 0 summary
   of_made_refused : (cycles size : ℕ) (status : ℕ) (bytes : List ℕ) → Judges Run (ring_text size cycles) status bytes → status ≢ 0

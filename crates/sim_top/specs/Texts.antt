@@ -4,12 +4,9 @@ use Rattle.crew_run.specs.Summaries.{BeginsLine}
 use Rattle.sim_engine.specs.Stages.{circuit_limit}
 use Rattle.sim_top.specs.declared.texts.WholeFault.{WholeFault}
 use Rattle.sim_top.specs.declared.texts.WholeFault.TheVariants.{TooLong, NoStimulus, WatchUnknown}
-use Rattle.sim_top.specs.Commands.{Job, Run, Check, Widths, Cut, Refine, Vcd}
+use Rattle.sim_top.specs.Commands.{Job, Run, Check, Widths, Cut, Refine, Vcd, Save, Resume, joined_limit}
 
--- the greatest length of a joined text, and of a stimulus's text, in bytes
-abbrev pub joined_limit : ℕ
-joined_limit = 20971520
-
+-- the greatest length of a stimulus's text, in bytes
 abbrev pub stimulus_limit : ℕ
 stimulus_limit = 4194304
 
@@ -61,6 +58,8 @@ reads_all Widths = true
 reads_all (Cut workers) = true
 reads_all (Refine workers) = true
 reads_all (Vcd names) = false
+reads_all (Save begin) = false
+reads_all (Resume begin) = false
 
 -- The circuit's text and the stimulus's: what stands before the line `%stimulus`, and what stands behind it. Where the circuit isn't run all of
 -- a text without such a line is the circuit's, and the stimulus's is empty.

@@ -1,6 +1,6 @@
 //! What a command answers to texts.
 
-ghost use Rattle.std.specs.Prelude.{◌≡◌, ℕ, List, map, true, ◌<◌, ◌≤◌, length, IfOk, IfErr, Some, codes};
+ghost use Rattle.std.specs.Prelude.{◌≡◌, ℕ, List, map, true, ◌<◌, ◌≤◌, length, Option as Optional, IfOk, IfErr, Some, option_map, codes};
 ghost use Rattle.place_text.specs.Places.{first_place};
 ghost use Rattle.place_text.specs.declared.place.Place.{Place as APlace};
 ghost use Rattle.trace_print.specs.Listing.{listing_of};
@@ -12,16 +12,19 @@ ghost use Rattle.stimulus.specs.Stimuli.{IsFormed};
 ghost use Rattle.fir_meaning.specs.Components.{design_of};
 ghost use Rattle.cut_listing.specs.CircuitCuts.{IsCutText};
 ghost use Rattle.refine_listing.specs.RefinedTexts.{IsRefinedText};
-ghost use Rattle.sim_top.specs.Commands.{AreWorkers, Run, Vcd, job};
-ghost use Rattle.sim_top.specs.Texts.{joined_limit, stimulus_limit, reads_all, HasNone, IsPart};
-ghost use Rattle.sim_top.specs.Answers.{fault_bytes, whole_bytes, stimulus_bytes, whole_stimulus_bytes, RefusesStimulus, TakesStimulus, JudgesTexts, Judges};
+ghost use Rattle.sim_top.specs.Commands.{AreInRange, IsShort, Told, joined_limit, state_limit, Run, Vcd, Save, Resume, job, text_given};
+ghost use Rattle.sim_top.specs.Texts.{stimulus_limit, reads_all, HasNone, IsPart};
+ghost use Rattle.sim_top.specs.Answers.{fault_bytes, whole_bytes, stimulus_bytes, whole_stimulus_bytes, state_bytes, whole_state_bytes, RefusesStimulus, TakesStimulus, RefusesState, TakesState, JudgesTexts, Judges};
 ghost use Rattle.sim_top.specs.declared.judge.Reply.{Reply as TheReply};
 ghost use Rattle.sim_top.specs.Endings.{IsFaultLine, Gives, IsFor, IsRunnable};
+ghost use Rattle.snapshot_text.specs.Faults.{place_of as place_in_state};
+ghost use Rattle.state_texts.specs.Held.{IsStartOf};
 
 use crate::texts::{STIMULUS_LIMIT, WholeFault, split};
-use crate::words::Command;
+use crate::words::{Command, StateText};
 use bit_words::List;
 use circuit_dump::variables;
+use circuit_state::first_snapshot;
 use crew_run::watched_numbers;
 use cut_listing::circuit_cut;
 use fault_order::Fault;
@@ -29,6 +32,7 @@ use fir_tree::Fitted;
 use place_text::{Place, TextPart, fault_line};
 use refine_listing::circuit_refine;
 use sim_engine::{Built, CIRCUIT_LIMIT, CircuitFault, compile_text};
+use snapshot_text::{Snapshot, StateFault, read_state};
 use std::alloc::{AllocError, Global};
 use stimulus::{StimFault, Stimulus, read_stimulus};
 use trace_print::widths_text;
@@ -36,12 +40,15 @@ use trace_print::widths_text;
 /// The place of a fault of a text as a whole.
 const FRONT: Place = Place { line: 1, column: 1 };
 
-/// What is to be done: a reply is said, or a circuit is run under a stimulus, with these leaves watched or dumped, each by its number.
+/// What is to be done: a reply is said; or a circuit is run under a stimulus, with these leaves watched or dumped, each by its number, or from
+/// a snapshot to the state that it leads to, or from a snapshot with these leaves watched.
 #[derive(Drop)]
 pub enum Decision {
     Say(Reply),
     Run(Built, Stimulus, List<u32>),
     Dump(Built, Stimulus, List<u32>),
+    Save(Built, Stimulus, Snapshot),
+    Resume(Built, Stimulus, List<u32>, Snapshot),
 }
 
 /// A status and the bytes that are written.
@@ -54,7 +61,7 @@ pub struct Reply {
 /// What the command answers to a joined text within its limit.
 pub fn judge(alloc: Global, command: Command<'_, '_>, text: &[u8]) -> Result<Decision, AllocError>
     requires within { length text.now ≤ joined_limit }
-    requires workers { AreWorkers (job command) }
+    requires in_range { AreInRange (job command) }
     ensures judges { IfOk result (Gives (Judges (job command.entry) text.now)) }
     ensures fits { IfOk result (IsFor (job command.entry)) }
 {
@@ -68,13 +75,15 @@ pub fn judge(alloc: Global, command: Command<'_, '_>, text: &[u8]) -> Result<Dec
 fn judge_whole(alloc: Global, command: Command<'_, '_>, text: &[u8]) -> Result<Decision, AllocError>
     requires within { length text.now ≤ joined_limit }
     requires none { HasNone text.now }
-    requires workers { AreWorkers (job command) }
+    requires in_range { AreInRange (job command) }
     ensures judges { IfOk result (Gives (Judges (job command.entry) text.now)) }
     ensures fits { IfOk result (IsFor (job command.entry)) }
 {
     match command {
         Command::Run => refuse_unstimulated(alloc),
         Command::Vcd(_) => refuse_unstimulated(alloc),
+        Command::Save(_) => refuse_unstimulated(alloc),
+        Command::Resume(_) => refuse_unstimulated(alloc),
         Command::Check => Ok(judge_part(alloc, command, text, &[])?),
         Command::Widths => Ok(judge_part(alloc, command, text, &[])?),
         Command::Cut(_) => Ok(judge_part(alloc, command, text, &[])?),
@@ -97,7 +106,7 @@ fn judge_part(
     circuit: &[u8],
     stimulus: &[u8],
 ) -> Result<Decision, AllocError>
-    requires workers { AreWorkers (job command) }
+    requires in_range { AreInRange (job command) }
     ensures judges { IfOk result (λ d. (joined : List ℕ) → length joined ≤ joined_limit → IsPart (job command.entry) joined circuit.now stimulus.now → Gives (Judges (job command.entry) joined) d) }
     ensures fits { IfOk result (IsFor (job command.entry)) }
 {
@@ -116,7 +125,7 @@ pub fn judge_texts(
     stimulus: &[u8],
 ) -> Result<Decision, AllocError>
     requires within { length circuit.now ≤ circuit_limit }
-    requires workers { AreWorkers (job command) }
+    requires in_range { AreInRange (job command) }
     ensures judges { IfOk result (Gives (JudgesTexts (job command.entry) circuit.now stimulus.now)) }
     ensures fits { IfOk result (IsFor (job command.entry)) }
 {
@@ -149,13 +158,15 @@ fn judge_built(
     stimulus: &[u8],
 ) -> Result<Decision, AllocError>
     requires built { (text : List ℕ) × IsBuilt text built }
-    requires workers { AreWorkers (job command) }
+    requires in_range { AreInRange (job command) }
     ensures judges { IfOk result (λ d. (text : List ℕ) → IsBuilt text built → Gives (JudgesTexts (job command.entry) text stimulus.now) d) }
     ensures fits { IfOk result (IsFor (job command.entry)) }
 {
     match command {
         Command::Run => run(alloc, built, stimulus),
         Command::Vcd(names) => dump(alloc, built, names, stimulus),
+        Command::Save(begin) => save(alloc, built, begin, stimulus),
+        Command::Resume(begin) => resume(alloc, built, begin, stimulus),
         Command::Check => answer(alloc, command, built),
         Command::Widths => answer(alloc, command, built),
         Command::Cut(_) => answer(alloc, command, built),
@@ -166,7 +177,7 @@ fn judge_built(
 /// What a command that doesn't run the circuit answers to one without a fault.
 fn answer(alloc: Global, command: Command<'_, '_>, built: Built) -> Result<Decision, AllocError>
     requires built { (text : List ℕ) × IsBuilt text built }
-    requires workers { AreWorkers (job command) }
+    requires in_range { AreInRange (job command) }
     requires unrun { reads_all (job command) ≡ true }
     ensures judges { IfOk result (λ d. (text stimulus : List ℕ) → IsBuilt text built → Gives (JudgesTexts (job command.entry) text stimulus) d) }
     ensures fits { IfOk result (IsFor (job command.entry)) }
@@ -178,7 +189,7 @@ fn answer(alloc: Global, command: Command<'_, '_>, built: Built) -> Result<Decis
 /// What it says.
 fn reply_to(alloc: Global, command: Command<'_, '_>, built: &Built) -> Result<Reply, AllocError>
     requires built { (text : List ℕ) × IsBuilt text built.now }
-    requires workers { AreWorkers (job command) }
+    requires in_range { AreInRange (job command) }
     requires unrun { reads_all (job command) ≡ true }
     ensures { IfOk result (λ r. (text stimulus : List ℕ) → IsBuilt text built.now → JudgesTexts (job command.entry) text stimulus r.status r.bytes.items) }
 {
@@ -189,6 +200,8 @@ fn reply_to(alloc: Global, command: Command<'_, '_>, built: &Built) -> Result<Re
         Command::Refine(workers) => divide_refined(alloc, built, workers),
         Command::Run => unreachable!(),
         Command::Vcd(_) => unreachable!(),
+        Command::Save(_) => unreachable!(),
+        Command::Resume(_) => unreachable!(),
     }
 }
 
@@ -268,6 +281,99 @@ fn dump(
     match take_stimulus(alloc, &built, stimulus)? {
         Ok(settings) => Ok(Decision::Dump(built, settings, numbers)),
         Err(reply) => Ok(Decision::Say(reply)),
+    }
+}
+
+/// What `save` answers to a circuit without a fault and to a stimulus's text. That text is judged before the state.
+fn save(
+    alloc: Global,
+    built: Built,
+    begin: Option<StateText<'_>>,
+    stimulus: &[u8],
+) -> Result<Decision, AllocError>
+    requires built { (text : List ℕ) × IsBuilt text built }
+    requires short { IsShort (option_map text_given begin) }
+    ensures judges { IfOk result (λ d. (text : List ℕ) → IsBuilt text built → Gives (JudgesTexts (Save (option_map text_given begin.entry)) text stimulus.now) d) }
+    ensures fits { IfOk result (IsFor (Save (option_map text_given begin.entry))) }
+{
+    match take_stimulus(alloc, &built, stimulus)? {
+        Ok(settings) => match take_start(alloc, &built, begin)? {
+            Ok(start) => Ok(Decision::Save(built, settings, start)),
+            Err(reply) => Ok(Decision::Say(reply)),
+        },
+        Err(reply) => Ok(Decision::Say(reply)),
+    }
+}
+
+/// What `resume` answers to a circuit without a fault and to a stimulus's text. That text is judged before the state.
+fn resume(
+    alloc: Global,
+    built: Built,
+    begin: StateText<'_>,
+    stimulus: &[u8],
+) -> Result<Decision, AllocError>
+    requires built { (text : List ℕ) × IsBuilt text built }
+    requires short { IsShort (Some (text_given begin)) }
+    ensures judges { IfOk result (λ d. (text : List ℕ) → IsBuilt text built → Gives (JudgesTexts (Resume (text_given begin.entry)) text stimulus.now) d) }
+    ensures fits { IfOk result (IsFor (Resume (text_given begin.entry))) }
+{
+    match take_stimulus(alloc, &built, stimulus)? {
+        Ok(settings) => match take_start(alloc, &built, Some(begin))? {
+            Ok(start) => {
+                let watch = watched_numbers(alloc, &built.ordered, &built.ports)?;
+                Ok(Decision::Resume(built, settings, watch, start))
+            }
+            Err(reply) => Ok(Decision::Say(reply)),
+        },
+        Err(reply) => Ok(Decision::Say(reply)),
+    }
+}
+
+/// The snapshot with which a run begins, or the line with which the state's text is refused.
+fn take_start(
+    alloc: Global,
+    built: &Built,
+    begin: Option<StateText<'_>>,
+) -> Result<Result<Snapshot, Reply>, AllocError>
+    requires built { (text : List ℕ) × IsBuilt text built.now }
+    requires short { IsShort (option_map text_given begin) }
+    ensures takes { IfOk result (λ taken. IfOk taken (λ start. (state : Optional (List ℕ)) × TakesState (option_map text_given begin.entry) state × IsStartOf built.now.ordered.net state start)) }
+    ensures status { IfOk result (λ taken. IfErr taken (λ reply. reply.status ≡ 3)) }
+    ensures refuses { IfOk result (λ taken. IfErr taken (λ reply. (circuit : List ℕ) → IsBuilt circuit built.now
+        → RefusesState built.now.fitted.checked.resolved.names (design_of built.now.fitted) (option_map text_given begin.entry) reply.bytes.items)) }
+{
+    match begin {
+        None => {
+            let start = first_snapshot(alloc, &built.ordered.net, &built.ports)?;
+            Ok(Ok(start))
+        }
+        Some(StateText::Told(text)) => take_state(alloc, built, text),
+        Some(StateText::TooLong) => {
+            let reply = refuse_long_state(alloc)?;
+            Ok(Err(reply))
+        }
+    }
+}
+
+/// The snapshot that a text is read as, or the line with which it is refused.
+fn take_state(
+    alloc: Global,
+    built: &Built,
+    text: &[u8],
+) -> Result<Result<Snapshot, Reply>, AllocError>
+    requires built { (text : List ℕ) × IsBuilt text built.now }
+    requires short { length text.now ≤ state_limit }
+    ensures takes { IfOk result (λ taken. IfOk taken (IsStartOf built.now.ordered.net (Some text.now))) }
+    ensures status { IfOk result (λ taken. IfErr taken (λ reply. reply.status ≡ 3)) }
+    ensures refuses { IfOk result (λ taken. IfErr taken (λ reply. (circuit : List ℕ) → IsBuilt circuit built.now
+        → RefusesState built.now.fitted.checked.resolved.names (design_of built.now.fitted) (Some (Told text.now)) reply.bytes.items)) }
+{
+    match read_state(alloc, text, &built.ordered.net, &built.ports) {
+        Ok(start) => Ok(Ok(start)),
+        Err(fault) => {
+            let reply = refuse_state(alloc, fault)?;
+            Ok(Err(reply))
+        }
     }
 }
 
@@ -357,5 +463,29 @@ fn refuse_long_stimulus(alloc: Global) -> Result<Reply, AllocError>
     Ok(Reply {
         status: 3,
         bytes: fault_line(alloc, TextPart::Stimulus, fault.name(), FRONT)?,
+    })
+}
+
+/// The line of a fault of a state. Where memory was wanted there is none.
+fn refuse_state(alloc: Global, fault: StateFault) -> Result<Reply, AllocError>
+    ensures { IfOk result (λ r. (r.status ≡ 3) × ((there' : APlace) × (place_in_state fault ≡ Some there') × (r.bytes.items ≡ state_bytes fault there'))) }
+{
+    let Some(place) = fault.place() else {
+        return Err(AllocError);
+    };
+    Ok(Reply {
+        status: 3,
+        bytes: fault_line(alloc, TextPart::State, fault.kind(), place)?,
+    })
+}
+
+/// The line of a state's text that is too long.
+fn refuse_long_state(alloc: Global) -> Result<Reply, AllocError>
+    ensures { IfOk result (λ r. (r.status ≡ 3) × (r.bytes.items ≡ whole_state_bytes WholeFault.TooLong first_place)) }
+{
+    let fault = WholeFault::TooLong;
+    Ok(Reply {
+        status: 3,
+        bytes: fault_line(alloc, TextPart::State, fault.name(), FRONT)?,
     })
 }

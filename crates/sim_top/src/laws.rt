@@ -1,7 +1,7 @@
 //! Laws of the definitions that the contracts here name. The functions do nothing.
 
 ghost use Rattle.std.specs.Prelude.{◌≡◌, ℕ, Bool, List, Option, Some};
-ghost use Rattle.command_words.specs.Commands.{Run, Make, Vcd, command_of};
+ghost use Rattle.command_words.specs.Commands.{Run, Make, Vcd, Save, Resume, command_of};
 ghost use Rattle.sim_top.specs.Answers.{Answers};
 
 /// A command line has at most one answer over the texts that are held: one status, and the same bytes.
@@ -22,4 +22,8 @@ pub fn workers_change_no_answer()
         → command_of others ≡ Some (Make more cycles size) → (texts : List ℕ → Option (List ℕ)) (status : ℕ) (bytes : List ℕ) → Answers words texts status bytes → Answers others texts status bytes }
     ensures vcd { (words others : List (List ℕ)) (workers more : ℕ) (circuit : List ℕ) (leaves : List (List ℕ)) → command_of words ≡ Some (Vcd workers circuit leaves)
         → command_of others ≡ Some (Vcd more circuit leaves) → (texts : List ℕ → Option (List ℕ)) (status : ℕ) (bytes : List ℕ) → Answers words texts status bytes → Answers others texts status bytes }
+    ensures save { (words others : List (List ℕ)) (workers more : ℕ) (circuit : List ℕ) (state : Option (List ℕ)) → command_of words ≡ Some (Save workers circuit state)
+        → command_of others ≡ Some (Save more circuit state) → (texts : List ℕ → Option (List ℕ)) (status : ℕ) (bytes : List ℕ) → Answers words texts status bytes → Answers others texts status bytes }
+    ensures resume { (words others : List (List ℕ)) (workers more : ℕ) (circuit state : List ℕ) → command_of words ≡ Some (Resume workers circuit state)
+        → command_of others ≡ Some (Resume more circuit state) → (texts : List ℕ → Option (List ℕ)) (status : ℕ) (bytes : List ℕ) → Answers words texts status bytes → Answers others texts status bytes }
 {}

@@ -9,7 +9,10 @@ pub const JOINED_LIMIT: usize = 20_971_520;
 /// The greatest length of a stimulus's text in bytes.
 pub const STIMULUS_LIMIT: usize = 4_194_304;
 
-/// What is wrong with a circuit's or a stimulus's text as a whole, or with the words that name its leaves.
+/// The greatest length of a state's text in bytes.
+pub const STATE_LIMIT: usize = 67_108_864;
+
+/// What is wrong with a circuit's, a stimulus's or a state's text as a whole, or with the words that name its leaves.
 #[derive(Clone, Copy, Debug)]
 pub enum WholeFault {
     /// The text has more bytes than its limit.

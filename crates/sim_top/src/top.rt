@@ -12,18 +12,20 @@ ghost use Rattle.circuit_make.specs.Rings.{InRange, ring_text};
 ghost use Rattle.crew_run.specs.Summaries.{IsSummary};
 ghost use Rattle.sim_engine.specs.Stages.{circuit_limit};
 ghost use Rattle.command_words.specs.Commands.{Request, command_of};
-ghost use Rattle.sim_top.specs.Commands.{AreWorkers, IsCrew, IsInRange, Run as Job_run, Of_joined, Of_two, Of_made, asked_by, job, question, workers_asked, refined_asked, NeedsFor, Needs};
-ghost use Rattle.sim_top.specs.Texts.{joined_limit};
+ghost use Rattle.sim_top.specs.Commands.{AreInRange, IsShort, joined_limit, IsCrew, IsInRange, Run as Job_run, Of_joined, Of_two, Of_state, Of_made, job_from, text_given, told, asked_by, job, question, workers_asked, refined_asked, NeedsFor, Needs};
 ghost use Rattle.sim_top.specs.Answers.{JudgesTexts, Judges, AnswersTo, Answers};
-ghost use Rattle.sim_top.specs.Endings.{Ends, IsSaid, IsRun, IsFaultLine, IsReply, Gives, GivesDump, IsFor, IsReady, IsRunnable, IsDumpable, status_of};
+ghost use Rattle.sim_top.specs.Endings.{Ends, IsSaid, IsRun, IsWritten, IsFaultLine, IsReply, Gives, GivesDump, GivesFrom, IsFor, IsReady, IsRunnable, IsDumpable, IsSavable, IsResumable, status_of};
+ghost use Rattle.state_texts.specs.Held.{IsStartOf};
+ghost use Rattle.state_texts.specs.Texts.{IsResumedText, IsSavedText};
 
 use crate::judge::{Decision, Reply, judge, judge_texts, judge_under_long, refuse_whole};
-use crate::texts::{JOINED_LIMIT, STIMULUS_LIMIT, WholeFault};
-use crate::words::{Asked, Command, order_of};
+use crate::texts::{JOINED_LIMIT, STATE_LIMIT, STIMULUS_LIMIT, WholeFault};
+use crate::words::{Asked, Command, Keeping, StateText, order_of};
 use bit_words::List;
 use circuit_dump::simulate_vcd;
 use circuit_make::{MakeFault, make_joined};
 use circuit_run::RunFault;
+use circuit_state::{resume, save};
 use command_words::read_words;
 use crew_run::{CutPlan, Host, Plan, simulate, simulate_cut, summarize};
 use crew_workers::Gate;
@@ -31,6 +33,7 @@ use cut_refine::refined_cut;
 use register_table::Closed;
 use shelf_io::{Shelf, Sink, TakeFault, put_all, take_text};
 use sim_engine::{Built, CIRCUIT_LIMIT};
+use snapshot_text::Snapshot;
 use std::alloc::{AllocError, Global};
 use std::sync::Wait;
 use std::thread::Threads;
@@ -63,7 +66,7 @@ struct Task {
 }
 
 /// Reads the texts that the words name from the shelf, writes the answer to the sink, and gives the status: 0 where the
-/// texts are accepted, 1 where the words are no command, 2 where the circuit has a fault, 3 where the stimulus has one,
+/// texts are accepted, 1 where the words are no command, 2 where the circuit has a fault, 3 where the stimulus or a state has one,
 /// 4 where the shelf failed, 5 where the sink failed, 6 where memory was wanted.
 ///
 /// A circuit is run by as many workers as the words say, in threads that `rt` starts, and each enters the gate before each evaluation.
@@ -129,6 +132,22 @@ pub fn run_program<R: Threads + Wait + Sync, H: Shelf, K: Sink, G: Gate + Sync>(
                         watch: numbers.as_slice(),
                     };
                     dump(alloc, &crew, &errand, sink)
+                }
+                Decision::Save(built, stimulus, start) => {
+                    let errand = Errand {
+                        built: &built,
+                        stimulus: &stimulus,
+                        watch: &[],
+                    };
+                    write_state(alloc, &crew, &errand, &start, sink)
+                }
+                Decision::Resume(built, stimulus, watch, start) => {
+                    let errand = Errand {
+                        built: &built,
+                        stimulus: &stimulus,
+                        watch: watch.as_slice(),
+                    };
+                    go_on(alloc, &crew, &errand, &start, sink)
                 }
             }
         }
@@ -201,6 +220,9 @@ fn decide_asked<R: Threads + Wait + Sync, H: Shelf, G: Gate + Sync>(
     match asked {
         Asked::Joined(command, name) => decide_joined(alloc, command, name, shelf),
         Asked::Two(circuit, stimulus) => decide_two(alloc, circuit, stimulus, shelf),
+        Asked::State(keeping, circuit, state) => {
+            decide_state(alloc, keeping, circuit, state, shelf)
+        }
         Asked::Made { cycles, size } => {
             let reply = decide_made(alloc, crew, cycles, size)?;
             Ok(Decision::Say(reply))
@@ -215,7 +237,7 @@ fn decide_joined<H: Shelf>(
     name: &str,
     shelf: &mut H,
 ) -> Result<Decision, TakeFault>
-    requires { AreWorkers (job command) }
+    requires { AreInRange (job command) }
     ensures answers { IfOk result (λ d. (texts : List ℕ → Option (List ℕ)) → H.held shelf.old ≡ Some texts → Gives (AnswersTo texts (Of_joined (job command.entry) name.now)) d) }
     ensures ready { IfOk result IsReady }
     ensures usage { IfOk result (λ d. status_of d ≢ 1) }
@@ -281,6 +303,72 @@ fn decide_under<H: Shelf>(
     }
 }
 
+/// What is to be done for a joined text and a state's text. Both are read before one is judged, but where the joined text is too long the
+/// other one isn't opened.
+fn decide_state<H: Shelf>(
+    alloc: Global,
+    keeping: Keeping,
+    circuit: &str,
+    state: &str,
+    shelf: &mut H,
+) -> Result<Decision, TakeFault>
+    ensures answers { IfOk result (λ d. (texts : List ℕ → Option (List ℕ)) → H.held shelf.old ≡ Some texts → Gives (AnswersTo texts (Of_state keeping circuit.now state.now)) d) }
+    ensures ready { IfOk result IsReady }
+    ensures usage { IfOk result (λ d. status_of d ≢ 1) }
+    ensures fault { result ≡ Err TakeFault.ReadFault → (name : List ℕ) × NeedsFor (H.held shelf.old) (Of_state keeping circuit.now state.now) name × Rose (H.faults shelf.old name) (H.faults shelf.new name) }
+    ensures short { result ≢ Err TakeFault.TooLong }
+{
+    match take_text(alloc, shelf, circuit, JOINED_LIMIT) {
+        Ok(joined) => decide_from(alloc, keeping, &joined, state, shelf),
+        Err(TakeFault::TooLong) => {
+            let reply = refuse_whole(alloc, WholeFault::TooLong)?;
+            Ok(Decision::Say(reply))
+        }
+        Err(fault) => Err(fault),
+    }
+}
+
+/// What is to be done for a joined text, which is within its limit, and the state of a name.
+fn decide_from<H: Shelf>(
+    alloc: Global,
+    keeping: Keeping,
+    joined: &[u8],
+    state: &str,
+    shelf: &mut H,
+) -> Result<Decision, TakeFault>
+    requires { length joined.now ≤ joined_limit }
+    ensures answers { IfOk result (λ d. (texts : List ℕ → Option (List ℕ)) → H.held shelf.old ≡ Some texts
+        → (text : List ℕ) × (texts state.now ≡ Some text) × Gives (Judges (job_from keeping (told text)) joined.now) d) }
+    ensures ready { IfOk result IsReady }
+    ensures usage { IfOk result (λ d. status_of d ≢ 1) }
+    ensures fault { result ≡ Err TakeFault.ReadFault → Rose (H.faults shelf.old state.now) (H.faults shelf.new state.now) }
+    ensures short { result ≢ Err TakeFault.TooLong }
+{
+    match take_text(alloc, shelf, state, STATE_LIMIT) {
+        Ok(text) => Ok(judge_from(alloc, keeping, StateText::Told(&text), joined)?),
+        Err(TakeFault::TooLong) => Ok(judge_from(alloc, keeping, StateText::TooLong, joined)?),
+        Err(fault) => Err(fault),
+    }
+}
+
+/// What is done with a state answers to a joined text.
+fn judge_from(
+    alloc: Global,
+    keeping: Keeping,
+    state: StateText<'_>,
+    joined: &[u8],
+) -> Result<Decision, AllocError>
+    requires within { length joined.now ≤ joined_limit }
+    requires short { IsShort (Some (text_given state)) }
+    ensures judges { IfOk result (Gives (Judges (job_from keeping (text_given state.entry)) joined.now)) }
+    ensures fits { IfOk result (IsFor (job_from keeping (text_given state.entry))) }
+{
+    match keeping {
+        Keeping::Save => judge(alloc, Command::Save(Some(state)), joined),
+        Keeping::Resume => judge(alloc, Command::Resume(state), joined),
+    }
+}
+
 /// What `make` answers: the summary of the trace where the circuit that is made is run, else its first fault.
 fn decide_made<R: Threads + Wait + Sync, G: Gate + Sync>(
     alloc: Global,
@@ -308,6 +396,8 @@ fn decide_made<R: Threads + Wait + Sync, G: Gate + Sync>(
             Ok(sum_up(alloc, crew, &errand)?)
         }
         Decision::Dump(_, _, _) => unreachable!(),
+        Decision::Save(_, _, _) => unreachable!(),
+        Decision::Resume(_, _, _, _) => unreachable!(),
     }
 }
 
@@ -481,6 +571,77 @@ fn dump<R: Threads + Wait + Sync, G: Gate + Sync, K: Sink>(
         workers: crew.workers,
     };
     match simulate_vcd(alloc, &host, &plan, main_name(errand.built), sink) {
+        Ok(_closed) => 0,
+        Err(RunFault::WriteFault) => 5,
+        Err(RunFault::NoMemory) => 6,
+    }
+}
+
+/// Runs a circuit from a snapshot and writes the state that it leads to, and gives 0; or 5 where the sink failed, or 6 where memory was
+/// wanted, and then nothing was written.
+fn write_state<R: Threads + Wait + Sync, G: Gate + Sync, K: Sink>(
+    alloc: Global,
+    crew: &Crew<'_, R, G>,
+    errand: &Errand<'_>,
+    start: &Snapshot,
+    sink: &mut K,
+) -> u8
+    requires savable { IsSavable errand.now.built.now errand.now.stimulus.now start.now }
+    requires some { 1 ≤ crew.now.workers }
+    requires most { crew.now.workers ≤ 64 }
+    ensures saved { (begin : Option (List ℕ)) → IsStartOf errand.now.built.now.ordered.net begin start.now
+        → IsWritten (IsSavedText errand.now.built.now.fitted.checked.resolved.names (design_of errand.now.built.now.fitted) errand.now.stimulus.now begin) result (K.written sink.old) (K.written sink.new) }
+    ensures status { (result ≡ 0) ⊎ (result ≡ 5) ⊎ (result ≡ 6) }
+    ensures rose { result ≡ 5 → Rose (K.faults sink.old) (K.faults sink.new) }
+    ensures spared { result ≢ 5 → K.faults sink.new ≡ K.faults sink.old }
+{
+    let host = Host {
+        rt: crew.rt,
+        gate: crew.gate,
+    };
+    let plan = Plan {
+        ordered: &errand.built.ordered,
+        ports: &errand.built.ports,
+        stimulus: errand.stimulus,
+        watch: errand.watch,
+        workers: crew.workers,
+    };
+    match save(alloc, &host, &plan, start) {
+        Ok(bytes) => say(sink, &Reply { status: 0, bytes }),
+        Err(_) => 6,
+    }
+}
+
+/// Runs a circuit from a snapshot and writes its trace, and gives 0; or 5 where the sink failed, or 6 where memory was wanted.
+fn go_on<R: Threads + Wait + Sync, G: Gate + Sync, K: Sink>(
+    alloc: Global,
+    crew: &Crew<'_, R, G>,
+    errand: &Errand<'_>,
+    start: &Snapshot,
+    sink: &mut K,
+) -> u8
+    requires resumable { IsResumable errand.now.built.now errand.now.stimulus.now errand.now.watch.now start.now }
+    requires some { 1 ≤ crew.now.workers }
+    requires most { crew.now.workers ≤ 64 }
+    ensures resumed { (begin : Option (List ℕ)) → IsStartOf errand.now.built.now.ordered.net begin start.now
+        → (bytes : List ℕ) × IsResumedText errand.now.built.now.fitted.checked.resolved.names (design_of errand.now.built.now.fitted) errand.now.stimulus.now begin bytes
+        × IsRun result bytes (K.written sink.old) (K.written sink.new) }
+    ensures status { (result ≡ 0) ⊎ (result ≡ 5) ⊎ (result ≡ 6) }
+    ensures rose { result ≡ 5 → Rose (K.faults sink.old) (K.faults sink.new) }
+    ensures spared { result ≢ 5 → K.faults sink.new ≡ K.faults sink.old }
+{
+    let host = Host {
+        rt: crew.rt,
+        gate: crew.gate,
+    };
+    let plan = Plan {
+        ordered: &errand.built.ordered,
+        ports: &errand.built.ports,
+        stimulus: errand.stimulus,
+        watch: errand.watch,
+        workers: crew.workers,
+    };
+    match resume(alloc, &host, &plan, start, sink) {
         Ok(_closed) => 0,
         Err(RunFault::WriteFault) => 5,
         Err(RunFault::NoMemory) => 6,

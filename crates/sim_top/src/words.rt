@@ -2,7 +2,7 @@
 
 ghost use Rattle.std.specs.Prelude.{◌≡◌, ◌≤◌, false, option_map, Some};
 ghost use Rattle.command_words.specs.Commands.{InRange, request_of};
-ghost use Rattle.sim_top.specs.Commands.{IsInRange, IsCrew, Of_joined, job, question, run_question, question_of, workers_asked, refined_asked};
+ghost use Rattle.sim_top.specs.Commands.{IsInRange, IsCrew, Of_joined, job, question, run_question, save_question, question_of, workers_asked, refined_asked};
 
 /// What is done with a joined text.
 #[derive(Clone, Copy)]
@@ -19,6 +19,24 @@ pub enum Command<'b, 'a> {
     Refine(u32),
     /// Runs a circuit under a stimulus and dumps the changes of the leaves of these names, or of the watched leaves where there is none.
     Vcd(&'b [&'a str]),
+    /// Runs a circuit under a stimulus from a state, or from all 0 where there is none, and writes the state that it leads to.
+    Save(Option<StateText<'b>>),
+    /// Runs a circuit under a stimulus from a state.
+    Resume(StateText<'b>),
+}
+
+/// The text of a state, or that it has more bytes than its limit.
+#[derive(Clone, Copy)]
+pub enum StateText<'b> {
+    Told(&'b [u8]),
+    TooLong,
+}
+
+/// What is done with a state: a run from it is written as the state that it leads to, or as its trace.
+#[derive(Clone, Copy)]
+pub enum Keeping {
+    Save,
+    Resume,
 }
 
 /// A command, with the names of the texts that it reads.
@@ -28,6 +46,8 @@ pub enum Asked<'b, 'a> {
     Joined(Command<'b, 'a>, &'a str),
     /// A run of a circuit's text under a stimulus's text.
     Two(&'a str, &'a str),
+    /// What is done with a joined text and a state's text.
+    State(Keeping, &'a str, &'a str),
     /// A run of a circuit that is made, and no text is read. Both numbers are from 1 to 4,096.
     Made { cycles: u32, size: u32 },
 }
@@ -85,6 +105,24 @@ pub fn order_of<'b, 'a>(command: &'b command_words::Command<'a>) -> Order<'b, 'a
         command_words::Command::Refine { workers, circuit } => {
             joined(Command::Refine(*workers), circuit, *workers)
         }
+        command_words::Command::Save {
+            workers,
+            circuit,
+            state,
+        } => Order {
+            asked: save_of(circuit, *state),
+            workers: *workers,
+            refined: false,
+        },
+        command_words::Command::Resume {
+            workers,
+            circuit,
+            state,
+        } => Order {
+            asked: Asked::State(Keeping::Resume, circuit, state),
+            workers: *workers,
+            refined: false,
+        },
     }
 }
 
@@ -109,5 +147,16 @@ fn run_of<'b, 'a>(circuit: &'a str, stimulus: Option<&'a str>) -> Asked<'b, 'a>
     match stimulus {
         None => Asked::Joined(Command::Run, circuit),
         Some(stimulus) => Asked::Two(circuit, stimulus),
+    }
+}
+
+/// What `save` asks for.
+fn save_of<'b, 'a>(circuit: &'a str, state: Option<&'a str>) -> Asked<'b, 'a>
+    ensures asked { question result ≡ save_question circuit.now (option_map (λ name. name.now) state.entry) }
+    ensures in_range { IsInRange (question result) }
+{
+    match state {
+        None => Asked::Joined(Command::Save(None), circuit),
+        Some(state) => Asked::State(Keeping::Save, circuit, state),
     }
 }

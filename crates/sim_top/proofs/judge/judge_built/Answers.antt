@@ -1,6 +1,6 @@
-use Rattle.std.proofs.Common.{ap}
+use Rattle.std.proofs.Common.{ap, subst}
 use Rattle.std.proofs.lemmas.Result.{IfOk-weaker}
-use Rattle.sim_top.specs.Commands.{job}
+use Rattle.sim_top.specs.Commands.{AreInRange, job}
 use Rattle.sim_top.specs.Texts.{reads_all}
 use Rattle.sim_top.proofs.Judging.{gives_here}
 use Rattle.sim_top.proofs.judge.judge_built.Goals as goal
@@ -40,3 +40,21 @@ returns-in-Cut-clause-judges c = IfOk-weaker _ _ _ (gives_here (job c.args.comma
 
 pub returns-in-Refine-clause-judges : goal.returns-in-Refine-clause-judges
 returns-in-Refine-clause-judges c = IfOk-weaker _ _ _ (gives_here (job c.args.command) c.args.built c.args.stimulus.now) c.answer-in-Refine.ensures.judges
+
+pub save-requires-clause-short : goal.save-requires-clause-short
+save-requires-clause-short c = subst (λ k. AreInRange (job k)) c.in-Save.is c.requires.in_range
+
+pub returns-in-Save-clause-judges : goal.returns-in-Save-clause-judges
+returns-in-Save-clause-judges c = rw c.in-Save.is c.save.ensures.judges
+
+pub returns-in-Save-clause-fits : goal.returns-in-Save-clause-fits
+returns-in-Save-clause-fits c = rw c.in-Save.is c.save.ensures.fits
+
+pub resume-requires-clause-short : goal.resume-requires-clause-short
+resume-requires-clause-short c = subst (λ k. AreInRange (job k)) c.in-Resume.is c.requires.in_range
+
+pub returns-in-Resume-clause-judges : goal.returns-in-Resume-clause-judges
+returns-in-Resume-clause-judges c = rw c.in-Resume.is c.resume.ensures.judges
+
+pub returns-in-Resume-clause-fits : goal.returns-in-Resume-clause-fits
+returns-in-Resume-clause-fits c = rw c.in-Resume.is c.resume.ensures.fits

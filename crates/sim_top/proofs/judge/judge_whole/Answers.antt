@@ -1,6 +1,6 @@
 use Rattle.std.proofs.Common.{ap, refl}
 use Rattle.std.proofs.lemmas.Result.{IfOk-weaker}
-use Rattle.sim_top.specs.declared.words.Command.TheVariants.{Run, Vcd}
+use Rattle.sim_top.specs.declared.words.Command.TheVariants.{Run, Vcd, Save, Resume}
 use Rattle.sim_top.specs.Commands.{job}
 use Rattle.sim_top.specs.Texts.{all_of_it, reads_all}
 use Rattle.sim_top.proofs.Judging.{lacks_line, unstimulated_fits}
@@ -33,3 +33,15 @@ returns-in_ok-judge_part-in-Cut-clause-judges c =
 pub returns-in_ok-judge_part-in-Refine-clause-judges : goal.returns-in_ok-judge_part-in-Refine-clause-judges
 returns-in_ok-judge_part-in-Refine-clause-judges c =
     c.in_ok-judge_part-in-Refine.ensures.judges _ c.requires.within (all_of_it (job c.args.command) _ (ap (λ k. reads_all (job k)) c.in-Refine.is) c.requires.none)
+
+pub returns-in-Save-clause-judges : goal.returns-in-Save-clause-judges
+returns-in-Save-clause-judges c = IfOk-weaker _ _ _ (lacks_line c.args.command (Save _) _ c.in-Save.is refl c.requires.within c.requires.none) c.refuse_unstimulated-in-Save.ensures
+
+pub returns-in-Save-clause-fits : goal.returns-in-Save-clause-fits
+returns-in-Save-clause-fits c = IfOk-weaker _ _ _ (unstimulated_fits (job c.args.command)) c.refuse_unstimulated-in-Save.ensures
+
+pub returns-in-Resume-clause-judges : goal.returns-in-Resume-clause-judges
+returns-in-Resume-clause-judges c = IfOk-weaker _ _ _ (lacks_line c.args.command (Resume _) _ c.in-Resume.is refl c.requires.within c.requires.none) c.refuse_unstimulated-in-Resume.ensures
+
+pub returns-in-Resume-clause-fits : goal.returns-in-Resume-clause-fits
+returns-in-Resume-clause-fits c = IfOk-weaker _ _ _ (unstimulated_fits (job c.args.command)) c.refuse_unstimulated-in-Resume.ensures

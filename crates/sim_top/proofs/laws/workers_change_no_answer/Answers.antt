@@ -18,3 +18,11 @@ returns-clause-make c = λ words others workers more cycles size one other.
 pub returns-clause-vcd : goal.returns-clause-vcd
 returns-clause-vcd c = λ words others workers more circuit leaves one other.
     same_answers words others (ap question_of one ∙ sym (ap question_of other))
+
+pub returns-clause-save : goal.returns-clause-save
+returns-clause-save c = λ words others workers more circuit state one other.
+    same_answers words others (ap question_of one ∙ sym (ap question_of other))
+
+pub returns-clause-resume : goal.returns-clause-resume
+returns-clause-resume c = λ words others workers more circuit state one other.
+    same_answers words others (ap question_of one ∙ sym (ap question_of other))

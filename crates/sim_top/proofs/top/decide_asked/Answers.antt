@@ -27,3 +27,9 @@ decide_made-requires-clause-size g c κs within = (subst (λ (a : Asked). IsInRa
 
 pub returns-in_ok-reply-in-Made-clause-answers : goal.returns-in_ok-reply-in-Made-clause-answers
 returns-in_ok-reply-in-Made-clause-answers g c = λ texts held. rw c.in-Made.is (c.in_ok-reply-in-Made.ensures.answers texts)
+
+pub returns-in-State-clause-answers : goal.returns-in-State-clause-answers
+returns-in-State-clause-answers g c = rw c.in-State.is c.decide_state.ensures.answers
+
+pub returns-in-State-clause-fault : goal.returns-in-State-clause-fault
+returns-in-State-clause-fault g c = rw c.in-State.is c.decide_state.ensures.fault

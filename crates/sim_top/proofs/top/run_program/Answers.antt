@@ -1,4 +1,4 @@
-use Rattle.sim_top.proofs.Replying.{said_few, said_rose, ends_said, ends_run, ends_wanting, reply_few, run_answered, unheld_unanswered, said_untouched, said_complete}
+use Rattle.sim_top.proofs.Replying.{said_few, said_rose, ends_said, ends_run, ends_wanting, ends_written, reply_few, run_answered, written_answered, unwritten, unheld_unanswered, said_untouched, said_complete}
 use Rattle.sim_top.proofs.top.run_program.Goals as goal
 
 pub returns-in-Say-clause-ends : goal.returns-in-Say-clause-ends
@@ -76,3 +76,48 @@ returns-in-Dump-clause-unheld g c = λ texts name held needs none.
 
 pub dump-requires-clause-dumpable : goal.dump-requires-clause-dumpable
 dump-requires-clause-dumpable g c κs within = rw c.as_slice-in-Dump.ensures (rw c.in-Dump.is (rw c.in-Dump.is at c.in-Ok.ensures.ready))
+
+pub returns-in-Save-clause-ends : goal.returns-in-Save-clause-ends
+returns-in-Save-clause-ends g c = λ texts before held written.
+    let gives = rw c.in-Save.is at c.in-Ok.ensures.answers texts held in
+    let put = rw c.in-Save.is at c.write_state.ensures.saved gives.begin gives.begins in
+    ends_written _ texts _ _ before _ _ gives.written put c.write_state.ensures.status written
+
+pub returns-in-Save-clause-answered : goal.returns-in-Save-clause-answered
+returns-in-Save-clause-answered g c = λ texts held few.
+    let gives = rw c.in-Save.is at c.in-Ok.ensures.answers texts held in
+    let put = rw c.in-Save.is at c.write_state.ensures.saved gives.begin gives.begins in
+    written_answered _ texts _ _ _ _ gives.written put c.write_state.ensures.status few
+
+pub returns-in-Save-clause-unheld : goal.returns-in-Save-clause-unheld
+returns-in-Save-clause-unheld g c = λ texts name held needs none.
+    let gives = rw c.in-Save.is at c.in-Ok.ensures.answers texts held in
+    let put = rw c.in-Save.is at c.write_state.ensures.saved gives.begin gives.begins in
+    unwritten _ texts _ _ _ _ gives.written put c.write_state.ensures.status (λ bytes answers. unheld_unanswered _ texts _ name _ _ held needs none answers)
+
+pub write_state-requires-clause-savable : goal.write_state-requires-clause-savable
+write_state-requires-clause-savable g c κs within = rw c.in-Save.is (rw c.in-Save.is at c.in-Ok.ensures.ready)
+
+pub returns-in-Resume-clause-ends : goal.returns-in-Resume-clause-ends
+returns-in-Resume-clause-ends g c = λ texts before held written.
+    let gives = rw c.in-Resume.is at c.in-Ok.ensures.answers texts held in
+    let resumed = rw c.in-Resume.is at c.go_on.ensures.resumed in
+    let ran = resumed gives.begin gives.begins in
+    ends_run _ texts _ _ before _ _ (gives.written ran.0 ran.1) ran.2 written
+
+pub returns-in-Resume-clause-answered : goal.returns-in-Resume-clause-answered
+returns-in-Resume-clause-answered g c = λ texts held few.
+    let gives = rw c.in-Resume.is at c.in-Ok.ensures.answers texts held in
+    let resumed = rw c.in-Resume.is at c.go_on.ensures.resumed in
+    let ran = resumed gives.begin gives.begins in
+    run_answered _ texts _ _ _ _ (gives.written ran.0 ran.1) ran.2 few
+
+pub returns-in-Resume-clause-unheld : goal.returns-in-Resume-clause-unheld
+returns-in-Resume-clause-unheld g c = λ texts name held needs none.
+    let gives = rw c.in-Resume.is at c.in-Ok.ensures.answers texts held in
+    let resumed = rw c.in-Resume.is at c.go_on.ensures.resumed in
+    let ran = resumed gives.begin gives.begins in
+    absurd (unheld_unanswered _ texts _ name _ _ held needs none (gives.written ran.0 ran.1))
+
+pub go_on-requires-clause-resumable : goal.go_on-requires-clause-resumable
+go_on-requires-clause-resumable g c κs within = rw c.as_slice-in-Resume.ensures (rw c.in-Resume.is (rw c.in-Resume.is at c.in-Ok.ensures.ready))
