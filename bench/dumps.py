@@ -13,10 +13,11 @@ FRONT = "FIRRTL version 3.0.0\ncircuit M :\n  module M :\n    input clock : Cloc
 
 
 def counters(count, cycles, moving):
-    """A vector of so many registers, of which so many change in each cycle, under a stimulus of so many cycles."""
-    body = f"    input a : UInt<8>\n    reg v : UInt<8>[{count}], clock\n"
-    body += "".join(f"    connect v[{k}], tail(add(v[{k}], UInt<8>(1)), 1)\n" for k in range(moving))
-    return FRONT + body + f"%stimulus\ncycles {cycles}\n"
+    """So many registers, of which so many change in each cycle, under a stimulus of so many cycles; and their names."""
+    rest = count - moving
+    body = f"    reg v : UInt<8>[{rest}], clock\n" if rest else ""
+    body += "".join(f"    reg r{k} : UInt<8>, clock\n    connect r{k}, tail(add(r{k}, UInt<8>(1)), 1)\n" for k in range(moving))
+    return FRONT + body + f"%stimulus\ncycles {cycles}\n", [f"v[{k}]" for k in range(rest)] + [f"r{k}" for k in range(moving)]
 
 
 def measured(program, words, text):
@@ -37,8 +38,7 @@ def main():
     program = os.path.realpath(sys.argv[1])
     print(f"{'dump':58} {'seconds':>8} {'MB':>6} {'bytes':>12} status")
     for count, cycles, moving, workers in ((65_535, 0, 10, 1), (65_535, 1000, 10, 1), (65_535, 1000, 10, 4), (65_535, 1000, 1000, 1), (32_768, 1000, 10, 1), (1_000, 1000, 1000, 1)):
-        text = counters(count - 1, cycles, min(moving, count - 1))
-        names = [f"v[{k}]" for k in range(count - 1)] + ["a"]
+        text, names = counters(count, cycles, moving)
         for meaning, words in ((f"{count:,} named leaves", ["vcd", "--workers", str(workers), "TEXT", *names]), ("run, the same text", ["run", "--workers", str(workers), "TEXT"])):
             took, peak, size, status = measured(program, words, text)
             print(f"{meaning + f', {cycles:,} cycles, {moving:,} change, {workers} workers':58} {took:8.2f} {peak / 1e6:6.0f} {size:12,} {status}")

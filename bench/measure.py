@@ -46,7 +46,7 @@ def wide(references, leaves):
 
 def connects(size):
     """As many connects of two names of one letter as fit, in one module."""
-    front = HEAD + b"  input c : UInt<1>\n  output o : UInt<1>\n"
+    front = b"FIRRTL version 3.0.0\ncircuit M:\n module M:\n  input c : UInt<1>\n  output o : UInt<1>\n"
     return front + filled(b"  connect o,c\n", size - len(front))
 
 
