@@ -1,0 +1,2 @@
+-- what the bodies keep, and what proofs need
+pub mod PieceRows

@@ -1,0 +1,14 @@
+//! Where the items of a run, its `printf` and `stop` lines, are found in its net: for each item of each instance the numbers of the leaves of
+//! its wire and of its arguments. Keeps the contract that these are all items of the run in the order in which they print, and that each
+//! leaf is the one that the item's names say.
+#![tactic(auto)]
+
+pub mod found;
+pub mod naming;
+pub mod owned;
+pub mod table;
+pub mod walk;
+
+pub use found::ItemAt;
+pub use table::{Makes, Row, Table};
+pub use walk::items_of;

@@ -1,0 +1,5 @@
+pub mod Told
+pub mod Shaped
+pub mod Logged
+pub mod Existing
+pub mod LogsOnce

@@ -1,0 +1,2 @@
+-- what a run of items is watched by
+pub mod Watched
