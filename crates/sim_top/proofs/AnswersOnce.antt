@@ -48,9 +48,8 @@ use Rattle.sim_engine.specs.declared.fault.CircuitFault.{CircuitFault}
 use Rattle.sim_engine.proofs.Accepting.{fitted_well_formed}
 use Rattle.sim_engine.proofs.Once.{one_fault, no_fault, accepted_once}
 use Rattle.sim_engine.proofs.Solving.{same_at, same_declared, same_modules, flagged}
-use Rattle.sim_top.specs.declared.words.Keeping.{Keeping}
 use Rattle.sim_top.specs.Commands.{StateText, Told, Too_long, told, joined_limit, Job, Run, Check, Widths, Cut, Refine, Vcd, Save, Resume, job_from, Question, Of_joined, Of_two, Of_state, Of_made, asked_by}
-use Rattle.sim_top.specs.Texts.{IsPart, IsTaken, reads_all, stimulus_limit}
+use Rattle.sim_top.specs.Texts.{IsPart, IsTaken, stimulus_limit}
 use Rattle.sim_top.specs.Answers.{fault_bytes, stimulus_bytes, state_bytes, RefusesStimulus, stimulus_too_long, stimulus_faulty, TakesStimulus, Runs, stimulus_refused, written, RefusesState, state_too_long, state_faulty, TakesState, no_state, told_state, RunsFrom, given_refused, state_refused, begun, JudgesTexts, refused, accepted, listed, divided, refined, ran, watch_unknown, dumped, saved, resumed, Judges, joined_too_long, no_stimulus, circuit_too_long, taken, AnswersTo, of_joined, of_long_circuit, of_two, of_long_joined, of_state, of_made, of_made_refused, Answers, no_command, answered}
 use Rattle.sim_top.proofs.Apart.{accepted_names}
 use Rattle.sim_top.proofs.Splitting.{part_once, run_has_line}

@@ -1,18 +1,16 @@
 -- What a command answers, from what the text is.
-use Rattle.std.proofs.Common.{◌≡◌, ◌≢◌, ℕ, ◌<◌, ◌≤◌, Bool, true, false, List, ◌⊎◌, ⊎_elim, length, sym, ap, ◌∙◌, subst, arith}
-use Rattle.std.specs.Prelude.{Option, Some, None, Result, Ok, Err, codes}
+use Rattle.std.proofs.Common.{◌≡◌, ◌≢◌, ℕ, ◌<◌, ◌≤◌, true, false, List, ◌⊎◌, ⊎_elim, length, sym, ap, ◌∙◌, subst, arith}
+use Rattle.std.specs.Prelude.{Option, Some, None, option_map, Result, Ok, Err, codes}
 use Rattle.place_text.specs.declared.place.Place.{Place}
 use Rattle.place_text.specs.Places.{first_place}
 use Rattle.fault_order.specs.First.{IsFirst}
 use Rattle.fault_order.specs.Verdicts.{IsVerdict}
 use Rattle.fir_meaning.specs.Components.{design_of}
-use Rattle.ground_net.specs.declared.net.Net.{Net}
 use Rattle.stimulus.specs.declared.stimulus.Stimulus.{Stimulus}
 use Rattle.stimulus.specs.declared.fault.StimFault.{StimFault}
 use Rattle.stimulus.specs.Faults.{IsFault, place_of, rank_of}
-use Rattle.stimulus.specs.Stimuli.{IsFormed, IsStimulus}
+use Rattle.stimulus.specs.Stimuli.{IsStimulus}
 use Rattle.ground_net.specs.declared.net.PortLeaf.{PortLeaf}
-use Rattle.ground_net.specs.Watching.{inputs}
 use Rattle.net_meaning.specs.Cycles as net_cycles
 use Rattle.snapshot_text.specs.declared.snapshot.Snapshot.{Snapshot}
 use Rattle.snapshot_text.specs.declared.fault.StateFault.{StateFault}
@@ -26,7 +24,6 @@ use Rattle.refine_listing.specs.RefinedTexts.{IsRefinedText}
 use Rattle.circuit_dump.specs.Variables.{NamesNoLeaf}
 use Rattle.circuit_dump.specs.NetNames.{AreNumbersOf}
 use Rattle.circuit_run.specs.Ports.{ArePortsOf}
-use Rattle.circuit_run.specs.Traces.{IsTraceText}
 use Rattle.circuit_run.proofs.Parts.{ports_of_circuit}
 use Rattle.trace_print.specs.Listing.{listing_of}
 use Rattle.sim_engine.specs.Stages.{circuit_limit, IsFirstFault}
@@ -35,16 +32,17 @@ use Rattle.sim_engine.specs.Faults.{fault_place}
 use Rattle.sim_engine.specs.declared.compile.Built.{Built}
 use Rattle.sim_engine.specs.declared.fault.CircuitFault.{CircuitFault}
 use Rattle.sim_engine.specs.declared.fault.CircuitFault.TheVariants.{NoMemory}
+use Rattle.sim_top.specs.declared.words.StateText.{StateText as GivenText}
 use Rattle.sim_top.specs.declared.words.Command.{Command}
 use Rattle.sim_top.specs.declared.words.Command.TheVariants as asked
 use Rattle.sim_top.specs.declared.texts.WholeFault.TheVariants.{TooLong, NoStimulus, WatchUnknown}
 use Rattle.sim_top.specs.declared.judge.Reply.{Reply}
 use Rattle.sim_top.specs.declared.judge.Decision.{Decision}
 use Rattle.sim_top.specs.declared.judge.Decision.TheVariants as decision
-use Rattle.sim_top.specs.Commands.{StateText, Told, Too_long, joined_limit, state_limit, Job, Run, Check, Widths, Cut, Refine, Vcd, Save, Resume, job}
+use Rattle.sim_top.specs.Commands.{StateText, Told, Too_long, joined_limit, Job, Run, Check, Widths, Cut, Refine, Vcd, Save, Resume, text_given, job}
 use Rattle.sim_top.specs.Texts.{HasNone, IsPart, reads_all, stimulus_limit}
-use Rattle.sim_top.specs.Answers.{fault_bytes, whole_bytes, stimulus_bytes, whole_stimulus_bytes, RefusesStimulus, stimulus_too_long, stimulus_faulty, TakesStimulus, Runs, stimulus_refused, written, whole_state_bytes, state_bytes, RefusesState, state_too_long, state_faulty, TakesState, RunsFrom, given_refused, state_refused, begun, JudgesTexts, refused, accepted, listed, divided, refined, ran, watch_unknown, dumped, saved, resumed, Judges, no_stimulus, circuit_too_long, taken}
-use Rattle.sim_top.specs.Endings.{Gives, IsFor, IsStart, IsRunnable, IsSavable, IsResumable}
+use Rattle.sim_top.specs.Answers.{fault_bytes, whole_bytes, stimulus_bytes, whole_stimulus_bytes, RefusesStimulus, stimulus_too_long, stimulus_faulty, TakesStimulus, stimulus_refused, written, whole_state_bytes, state_bytes, RefusesState, state_too_long, state_faulty, TakesState, RunsFrom, given_refused, state_refused, begun, JudgesTexts, refused, accepted, listed, divided, refined, ran, watch_unknown, dumped, saved, resumed, Judges, no_stimulus, circuit_too_long, taken}
+use Rattle.sim_top.specs.Endings.{Gives, IsFor, IsStart}
 
 -- what a decision has, it has of all that this is true of
 pub gives_more : (P Q : ℕ → List ℕ → Type 0) → ((s : ℕ) (b : List ℕ) → P s b → Q s b) → (d : Decision) → Gives P d → Gives Q d
@@ -233,6 +231,10 @@ refuses_state_fault circuit text built fault place bytes b v at e = rw e
 
 pub takes_state : (circuit text : List ℕ) (built : Built) (start : Snapshot) → IsBuilt circuit built → IsReadState text built (Ok start) → IsStartOf built.ordered.net (Some text) start
 takes_state circuit text built start b v = subst (λ (ls : List PortLeaf). IsSnapshot built.ordered.net ls text start) b.inputs v.ok
+
+-- what is given, as the definition sees it
+pub given_as : (begin : Option GivenText) (state : GivenText) (k : StateText) → begin ≡ Some state → text_given state ≡ k → option_map text_given begin ≡ Some k
+given_as begin state k e f = ap (option_map text_given) e ∙ ap Some f
 
 -- a run of what was built that begins with a state
 abbrev pub WritesFrom : Type 1

@@ -26,7 +26,7 @@ use Rattle.sim_top.specs.declared.judge.Decision.TheVariants as decision
 use Rattle.sim_top.specs.declared.words.Keeping.{Keeping}
 use Rattle.sim_top.specs.Commands.{StateText, Told as Told_text, Too_long, told, joined_limit, state_limit, Job, Run, Check, Widths, Cut, Refine, Vcd, Save, Resume, job_from, Question, Of_joined, Of_two, Of_state, Of_made, asked_by, NeedsFor, the_joined, the_circuit, the_stimulus, the_held, the_state, Needs}
 use Rattle.sim_top.specs.Answers.{whole_bytes, RefusesStimulus, stimulus_too_long, stimulus_faulty, Runs, stimulus_refused, written, RefusesState, state_too_long, state_faulty, RunsFrom, given_refused, state_refused, begun, JudgesTexts, refused, accepted, listed, divided, refined, ran, watch_unknown, dumped, saved, resumed, Judges, joined_too_long, no_stimulus, circuit_too_long, taken, AnswersTo, of_joined, of_long_circuit, of_two, of_long_joined, of_state as of_a_state, of_made, of_made_refused, Answers, no_command, answered}
-use Rattle.sim_top.specs.Endings.{Ends, IsSaid, IsRun, IsWritten, IsFaultLine, of_circuit, of_whole, of_stimulus, of_whole_stimulus, of_state, of_whole_state, IsReply, Gives, IsFor, IsReady, IsRunnable, IsDumpable, IsSavable, IsResumable, status_of}
+use Rattle.sim_top.specs.Endings.{Ends, IsSaid, IsRun, IsWritten, IsFaultLine, of_circuit, of_whole, of_stimulus, of_whole_stimulus, of_state, of_whole_state, IsReply, Gives, IsFor, IsReady, IsRunnable, IsDumpable, IsSavable, status_of}
 use Rattle.sim_top.proofs.AnswersOnce.{some_same, no_reading, answers_once}
 use Rattle.sim_top.proofs.Judging.{gives_more}
 
@@ -157,11 +157,19 @@ pub long_state_answers : (texts : List ℕ → Option (List ℕ)) (keeping : Kee
 long_state_answers texts keeping circuit state joined s b held long two e = rw (two, e) (of_long_joined keeping circuit state joined held long)
 
 -- what a job has of a state's text, by its length
-pub told_whole : (text : List ℕ) → length text ≤ state_limit → told text ≡ Told_text text
+told_whole : (text : List ℕ) → length text ≤ state_limit → told text ≡ Told_text text
 told_whole text short = ap (λ b. if b then Told_text text else Too_long) (le-leb (length text) state_limit short)
 
-pub told_long : (text : List ℕ) → state_limit < length text → told text ≡ Too_long
+told_long : (text : List ℕ) → state_limit < length text → told text ≡ Too_long
 told_long text long = ap (λ b. if b then Told_text text else Too_long) (lt-leb (length text) state_limit long)
+
+pub told_gives : (keeping : Keeping) (text joined : List ℕ) (d : Decision) → length text ≤ state_limit → Gives (Judges (job_from keeping (Told_text text)) joined) d
+    → Gives (Judges (job_from keeping (told text)) joined) d
+told_gives keeping text joined d short gives = subst (λ begin. Gives (Judges (job_from keeping begin) joined) d) (sym (told_whole text short)) gives
+
+pub long_gives : (keeping : Keeping) (text joined : List ℕ) (d : Decision) → state_limit < length text → Gives (Judges (job_from keeping Too_long) joined) d
+    → Gives (Judges (job_from keeping (told text)) joined) d
+long_gives keeping text joined d long gives = subst (λ begin. Gives (Judges (job_from keeping begin) joined) d) (sym (told_long text long)) gives
 
 -- what is decided for a text that is made
 abbrev pub IsMade : ℕ → ℕ → Decision → Type 0
@@ -251,7 +259,7 @@ ends_run words texts result bytes before old new answers run told = record {
 pub ends_written : (words : List (List ℕ)) (texts : List ℕ → Option (List ℕ)) (IsText : List ℕ → Type 0) (result : ℕ) (before : List ℕ) (old new : Option (List ℕ))
     → ((bytes : List ℕ) → IsText bytes → Answers words texts 0 bytes) → IsWritten IsText result old new → IsWritingStatus result → old ≡ Some before → Ends words texts result before new
 ends_written words texts IsText result before old new answers put status told_before = record {
-  answered = λ le. let z = written_whole result status le in let p = put.all z in (p.0, rw z (answers p.0 p.1), appended old new before p.0 told_before p.2);
+  answered = λ le. let z = written_whole result status le in let p = put.all z in (p.0, subst (λ x. Answers words texts x p.0) (sym z) (answers p.0 p.1), appended old new before p.0 told_before p.2);
   only = λ le other others a. let z = written_whole result status le in let p = put.all z in let o = answers_once words texts 0 other p.0 others (answers p.0 p.1) a in
       (sym o.0 ∙ sym z, appended old new before p.0 told_before p.2 ∙ ap (λ xs. Some (before ++ xs)) o.1);
   shelf_faulted = λ e. absurd (⊎_elim (λ z. omega (arith, e, z)) (λ more. ⊎_elim (λ five. omega (arith, e, five)) (λ six. omega (arith, e, six)) more) status);
@@ -402,12 +410,16 @@ save_planned built stimulus start savable = built_planned savable.text built sti
 pub written_said : (IsText : List ℕ → Type 0) (result : ℕ) (bytes : List ℕ) (old new : Option (List ℕ)) → IsText bytes → IsSaid result 0 bytes old new → IsWritten IsText result old new
 written_said IsText result bytes old new is said = record {
   all = λ zero. let n : result ≢ 5 = omega (arith, zero) in (bytes, is, (said.all n).1);
-  part = λ five. (bytes, is, said.part five);
+  part = λ five. let p = said.part five in (bytes, is, p.0, p.1);
   nothing = λ six. let n : result ≢ 5 = omega (arith, six) in let z = (said.all n).0 in absurd (omega (arith, six, z));
 }
 
 pub written_none : (IsText : List ℕ → Type 0) (old : Option (List ℕ)) → IsWritten IsText 6 old old
 written_none IsText old = record { all = λ zero. absurd (omega (arith, zero)); part = λ five. absurd (omega (arith, five)); nothing = λ six. nothing_written old }
+
+pub writing_complete : (result : ℕ) (Failed : Type 0) → IsWritingStatus result → (result ≡ 5 → Failed) → (Failed → ⊥) → (result ≤ 3) ⊎ (result ≡ 6)
+writing_complete result Failed status rose kept =
+    ⊎_elim (λ z. inl (omega (arith, z))) (λ more. ⊎_elim (λ five. absurd (kept (rose five))) (λ six. inr six) more) status
 
 pub said_status : (result : ℕ) (bytes : List ℕ) (old new : Option (List ℕ)) → IsSaid result 0 bytes old new → IsWritingStatus result
 said_status result bytes old new said = ⊎_elim (λ five. inr (inl five)) (λ n. inl (said.all n).0) (cases_eq result 5)

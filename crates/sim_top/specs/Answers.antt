@@ -1,5 +1,5 @@
 -- What the program is to answer: a status and the bytes that are written.
-use Rattle.std.specs.Prelude.{◌≡◌, ◌≢◌, ℕ, ◌<◌, ◌≤◌, false, List, length, Option, Some, None, option_map, codes}
+use Rattle.std.specs.Prelude.{◌≡◌, ◌≢◌, ℕ, ◌<◌, ◌≤◌, false, List, length, Option, Some, None, codes}
 use Rattle.place_text.specs.Places.{fault_line_bytes, first_place}
 use Rattle.place_text.specs.declared.place.Place.{Place}
 use Rattle.place_text.specs.declared.place.TextPart.TheVariants.{Circuit as Circuit_part, Stimulus as Stimulus_part, State as State_part}

@@ -347,11 +347,13 @@ fn take_start(
             let start = first_snapshot(alloc, &built.ordered.net, &built.ports)?;
             Ok(Ok(start))
         }
-        Some(StateText::Told(text)) => take_state(alloc, built, text),
-        Some(StateText::TooLong) => {
-            let reply = refuse_long_state(alloc)?;
-            Ok(Err(reply))
-        }
+        Some(state) => match state {
+            StateText::Told(text) => take_state(alloc, built, text),
+            StateText::TooLong => {
+                let reply = refuse_long_state(alloc)?;
+                Ok(Err(reply))
+            }
+        },
     }
 }
 

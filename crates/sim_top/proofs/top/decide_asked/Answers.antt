@@ -1,5 +1,4 @@
-use Rattle.std.proofs.Common.{ap, subst}
-use Rattle.std.proofs.lemmas.Result.{IfOk-weaker}
+use Rattle.std.proofs.Common.{subst}
 use Rattle.sim_top.specs.Commands.{IsInRange, question, the_joined}
 use Rattle.sim_top.specs.declared.words.Asked.{Asked}
 use Rattle.sim_top.proofs.top.decide_asked.Goals as goal

@@ -1,4 +1,4 @@
-use Rattle.sim_top.proofs.Replying.{said_few, said_rose, ends_said, ends_run, ends_wanting, ends_written, reply_few, run_answered, written_answered, unwritten, unheld_unanswered, said_untouched, said_complete}
+use Rattle.sim_top.proofs.Replying.{said_few, said_rose, ends_said, ends_run, ends_wanting, ends_written, reply_few, run_answered, written_answered, writing_complete, unwritten, unheld_unanswered, said_untouched, said_complete}
 use Rattle.sim_top.proofs.top.run_program.Goals as goal
 
 pub returns-in-Say-clause-ends : goal.returns-in-Say-clause-ends
@@ -121,3 +121,9 @@ returns-in-Resume-clause-unheld g c = λ texts name held needs none.
 
 pub go_on-requires-clause-resumable : goal.go_on-requires-clause-resumable
 go_on-requires-clause-resumable g c κs within = rw c.as_slice-in-Resume.ensures (rw c.in-Resume.is (rw c.in-Resume.is at c.in-Ok.ensures.ready))
+
+pub returns-in-Save-clause-complete : goal.returns-in-Save-clause-complete
+returns-in-Save-clause-complete g c = λ held kept. writing_complete _ _ c.write_state.ensures.status c.write_state.ensures.rose kept
+
+pub returns-in-Resume-clause-complete : goal.returns-in-Resume-clause-complete
+returns-in-Resume-clause-complete g c = λ held kept. writing_complete _ _ c.go_on.ensures.status c.go_on.ensures.rose kept

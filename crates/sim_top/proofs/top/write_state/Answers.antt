@@ -1,4 +1,3 @@
-use Rattle.std.proofs.Common.{inr, refl}
 use Rattle.sim_top.proofs.Apart.{accepted_apart}
 use Rattle.sim_top.proofs.Replying.{save_planned, said_status, written_said, written_none}
 use Rattle.sim_top.proofs.top.write_state.Goals as goal

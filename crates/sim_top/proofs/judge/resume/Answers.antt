@@ -1,0 +1,32 @@
+use Rattle.sim_top.proofs.Judging.{started, resume_refused, resume_unstarted, resume_begun, resume_no_run}
+use Rattle.sim_top.proofs.judge.resume.Goals as goal
+
+pub returns-in_ok-watch-in-Ok-2-clause-judges : goal.returns-in_ok-watch-in-Ok-2-clause-judges
+returns-in_ok-watch-in-Ok-2-clause-judges c = λ text b.
+    let takes = rw c.in-Ok.is at c.in_ok-settings.ensures.takes in
+    let start = rw c.in-Ok-2.is at c.in_ok-start-in-Ok.ensures.takes in
+    resume_begun _ start.0 text _ c.args.built _ c.in_ok-watch-in-Ok-2.watch _ b (takes text b) start.1 start.2
+
+pub returns-in_ok-watch-in-Ok-2-clause-fits : goal.returns-in_ok-watch-in-Ok-2-clause-fits
+returns-in_ok-watch-in-Ok-2-clause-fits c =
+    let formed = rw c.in-Ok.is at c.in_ok-settings.ensures.formed in
+    let start = rw c.in-Ok-2.is at c.in_ok-start-in-Ok.ensures.takes in (
+      resume_no_run _,
+      record {
+        runnable = record { text = c.requires.built.0; is_built = c.requires.built.1; formed = formed; are_watched = c.in_ok-watch-in-Ok-2.ensures.watch; are_leaves = c.in_ok-watch-in-Ok-2.ensures.leaves };
+        is_start = started c.args.built start.0 _ start.2;
+      },
+    )
+
+pub returns-in-Err-2-clause-judges : goal.returns-in-Err-2-clause-judges
+returns-in-Err-2-clause-judges c = λ text b.
+    let takes = rw c.in-Ok.is at c.in_ok-settings.ensures.takes in
+    let status = rw c.in-Err-2.is at c.in_ok-start-in-Ok.ensures.status in
+    let refuses = rw c.in-Err-2.is at c.in_ok-start-in-Ok.ensures.refuses in
+    resume_unstarted _ text _ c.args.built _ _ _ b status (takes text b) (refuses text b)
+
+pub returns-in-Err-clause-judges : goal.returns-in-Err-clause-judges
+returns-in-Err-clause-judges c = λ text b.
+    let status = rw c.in-Err.is at c.in_ok-settings.ensures.status in
+    let refuses = rw c.in-Err.is at c.in_ok-settings.ensures.refuses in
+    resume_refused _ text _ c.args.built _ _ b status (refuses text b)
