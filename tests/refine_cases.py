@@ -94,7 +94,7 @@ def circuit(chance):
     return FRAME + ports + body + connects, outputs + registers
 
 
-def cases(count=60, seed=1):
+def cases(count=200, seed=1):
     """The name of each case, and the case."""
     chance = random.Random(seed)
     for number in range(count):
@@ -109,7 +109,7 @@ def cases(count=60, seed=1):
 
 def main():
     program = sys.argv[1]
-    count = int(sys.argv[2]) if len(sys.argv) > 2 else 60
+    count = int(sys.argv[2]) if len(sys.argv) > 2 else 200
     seed = int(sys.argv[3]) if len(sys.argv) > 3 else 1
     wrong = 0
     for name, case in cases(count, seed):

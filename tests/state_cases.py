@@ -28,20 +28,21 @@ def run(program, words, text, folder):
     return subprocess.run([program, *words], input=text.encode("latin-1"), capture_output=True, timeout=PATIENCE, cwd=folder)
 
 
-def in_pieces(program, circuit, stimuli, trace, chance):
-    """Why the traces of pieces, each resumed from the state that was saved behind the one before, aren't the whole trace; or none."""
+def in_pieces(program, circuit, stimuli, trace, workers):
+    """Why the traces of pieces, each resumed from the state that was saved behind the one before, aren't the whole trace; or none. `workers` says by
+    how many each call is run."""
     told, state = "", []
     with tempfile.TemporaryDirectory() as folder:
         for number, stimulus in enumerate(stimuli):
             text = circuit + "%stimulus\n" + stimulus
-            command = ["resume" if state else "run", "--workers", str(chance.choice((1, 2, 3, 7))), "-", *state]
+            command = ["resume" if state else "run", "--workers", workers(), "-", *state]
             done = run(program, command, text, folder)
             if done.returncode or done.stderr:
                 return f"piece {number}: status {done.returncode}, wrote {done.stdout[:200]!r} {done.stderr[:100]!r}"
             head, lines = done.stdout.decode("latin-1").split("\n", 1)
             told = told or head + "\n"
             told += lines
-            done = run(program, ["save", "--workers", str(chance.choice((1, 2, 3, 7))), "-", *state], text, folder)
+            done = run(program, ["save", "--workers", workers(), "-", *state], text, folder)
             if done.returncode or done.stderr:
                 return f"state {number}: status {done.returncode}, wrote {done.stdout[:200]!r} {done.stderr[:100]!r}"
             (Path(folder) / "state").write_bytes(done.stdout)
@@ -71,6 +72,50 @@ def counted(cycles):
         trace += f"{cycle} {held}\n"
         held = (held + step) % 65_536
     return circuit, stimulus, trace
+
+
+# A circuit whose state has the line of an input, of two registers and of a read.
+SPOILED = (
+    FRONT
+    + """    input clock : Clock
+    input a : UInt<3>
+    reg r : UInt<3>, clock
+    reg s : SInt<3>, clock
+    mem m :
+      data-type => UInt<3>
+      depth => 1
+      read-latency => 1
+      write-latency => 1
+      reader => p
+      read-under-write => undefined
+    connect m.p.clk, clock
+    connect m.p.en, UInt<1>(1)
+    connect m.p.addr, UInt<1>(0)
+%stimulus
+cycles 0
+"""
+)
+
+
+def spoiled():
+    """States of this circuit, of which one line has a fault: a name, the text, and the fault's line."""
+    lines = ["state 4", "input a 5", "reg r 0", "reg s -4", "mem m[0] 6", "read m.p.data 7"]
+    for number in range(len(lines)):
+        words = lines[number].split(" ")
+        wrong = [("BadLine", 1, " ".join(words) + " "), ("BadLine", 1, "  ".join(words)), ("NameOrder", 1, " ".join(["x", *words[1:]]))]
+        if number == 0:
+            wrong += [("CyclesRange", 7, "state 999999000001"), ("CyclesRange", 7, "state " + "9" * 60), ("BadLine", 1, "state -1")]
+        else:
+            name, value = len(words[0]) + 2, len(words[0]) + len(words[1]) + 3
+            wrong += [("NameOrder", name, " ".join([words[0], "x", words[2]])), ("BadLine", 1, " ".join([*words[:2], "x"]))]
+            wrong += [("ValueRange", value, " ".join([*words[:2], other])) for other in ("8", "-5", str(2**128))]
+        for kind, column, line in wrong:
+            text = "".join(each + "\n" for each in [*lines[:number], line, *lines[number + 1 :]])
+            yield f"{kind} in line {number + 1} of a state", text, f"state {kind} {number + 1}:{column}\n"
+        text = "".join(each + "\n" for each in lines[:number] + lines[number + 1 :])
+        if number + 1 == len(lines):
+            yield "the last line of a state is missing", text, f"state BadLine {number + 1}:1\n"
+        yield f"line {number + 1} of a state is the last one, and without a line feed", "".join(each + "\n" for each in lines[:number]) + lines[number], f"state BadLine {number + 1}:1\n"
 
 
 def large(words):
@@ -105,19 +150,31 @@ def farm(program):
 
 def faults(program):
     found, chance, pieces = [], random.Random(5), splitter().pieces
+
+    def any_workers():
+        return chance.choice("1237")
+
     for path in sorted((TOP / "tests/corpus").glob("*.fir")):
         circuit, stimulus, trace = (path.with_suffix(f".{end}").read_text("latin-1") for end in ("fir", "stim", "expect"))
         cycles = trace.count("\n") - 1
         for count in (1, 2, 7):
             parts = list(pieces(stimulus, max(1, -(-cycles // count))))
-            found.append((f"{path.stem} in {len(parts)} pieces", in_pieces(program, circuit, parts, trace, chance)))
+            found.append((f"{path.stem} in {len(parts)} pieces", in_pieces(program, circuit, parts, trace, any_workers)))
         at = chance.randint(0, cycles)
         parts = list(of_lengths(pieces, stimulus, (at, cycles - at)))
-        found.append((f"{path.stem} up to cycle {at} and from there", in_pieces(program, circuit, parts, trace, chance)))
+        found.append((f"{path.stem} up to cycle {at} and from there", in_pieces(program, circuit, parts, trace, any_workers)))
     circuit, stimulus, trace = counted(2_051)
     for lengths in ((0, 2_051), (1, 2_050), (1_024, 1_027), (1_025, 1_026), (0, 1, 1_024, 1_025, 1)):
         parts = list(of_lengths(pieces, stimulus, lengths))
-        found.append((f"a counter in pieces of {', '.join(map(str, lengths))}", in_pieces(program, circuit, parts, trace, chance)))
+        for workers in "125":
+            name = f"a counter in pieces of {', '.join(map(str, lengths))} by {workers} workers"
+            found.append((name, in_pieces(program, circuit, parts, trace, lambda: workers)))
+    for name, state, line in spoiled():
+        with tempfile.TemporaryDirectory() as folder:
+            (Path(folder) / "state").write_text(state)
+            done = run(program, ["resume", "-", "state"], SPOILED, folder)
+        good = (done.returncode, done.stdout) == (3, line.encode())
+        found.append((name, None if good else f"status {done.returncode}, wrote {done.stdout[:100]!r}"))
     text, before, after = large(100_000)
     with tempfile.TemporaryDirectory() as folder:
         (Path(folder) / "state").write_text(before)
