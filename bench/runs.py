@@ -1,6 +1,6 @@
 """Prints tables: the time of `check` on large circuits that have no fault, at two sizes with the ratio; the time and cycles per second of
 runs of rings of registers and of the circuits of a folder; the time to read a stimulus of 4 MB, beside the circuit in a text of its own; and the
-memory of a run of 4,000,000 values.
+memory of a run of 4,000,000 values and of one with 1,000 inputs.
 
 usage: runs.py PROGRAM FOLDER
 """
@@ -133,6 +133,9 @@ def main():
     text += "".join(f"    connect {name}, a\n" for name in "opq") + "%stimulus\ncycles 1000000\n"
     took, memory, _ = taken(program, ["run"], text)
     print(f"\na run of 4,000,000 values: {took:.2f} s, {memory:.0f} MB")
+    text = FRONT + "  module M :\n    input v : UInt<8>[1000]\n    output o : UInt<8>\n    connect o, v[7]\n%stimulus\ncycles 1000000\n"
+    took, memory, _ = taken(program, ["run"], text)
+    print(f"1,000,000 cycles with 1,000 inputs: {took:.2f} s, {memory:.0f} MB")
 
 
 main()
