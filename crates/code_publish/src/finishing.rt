@@ -10,11 +10,12 @@ ghost use Rattle.code_publish.specs.Finishing.{IsCodeOf};
 use bit_words::List;
 use code_draft::Draft;
 use flat_code::{Code, Instr, Location, Op, Span};
-use std::alloc::AllocError;
+use std::alloc::{AllocError, Global};
 
 /// The code of a draft, which puts out what stands at these locations, as the outputs at these positions of the watch list, and owns the
-/// shared words of these spans.
+/// shared words of these spans. It has no runs.
 pub fn finish(
+    alloc: Global,
     draft: Draft,
     shown: List<Location>,
     positions: List<u32>,
@@ -38,6 +39,7 @@ pub fn finish(
     let most = publications(draft.instrs.as_slice())?;
     Ok(Code {
         instrs: draft.instrs,
+        runs: List::new(alloc),
         ports: draft.ports,
         wides: draft.wides,
         shown,

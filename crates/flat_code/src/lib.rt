@@ -8,8 +8,10 @@ pub mod instr;
 pub mod laws;
 pub mod loads;
 pub mod running;
+pub mod runs;
 
 pub use code::{Code, Span};
-pub use instr::{Form, Instr, Location, Op, Port, Region, Wide};
+pub use instr::{Form, Instr, Location, Op, Port, Region, Run, Wide};
 pub use loads::Loads;
 pub use running::{Effects, step};
+pub use runs::with_runs;

@@ -57,6 +57,6 @@ pub(crate) fn code_of(
         sources: &sources,
     };
     let made = made_of(alloc, &work, sinks, part, draft)?;
-    let code = finish(made.draft, made.shown, made.positions, made.owned)?;
+    let code = finish(alloc, made.draft, made.shown, made.positions, made.owned)?;
     Ok(code)
 }

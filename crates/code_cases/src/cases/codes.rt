@@ -50,6 +50,7 @@ fn made_of(
     let most = instrs.len() * 2;
     Ok(Some(Code {
         instrs,
+        runs: List::new(alloc),
         ports: List::new(alloc),
         wides: List::new(alloc),
         shown: List::new(alloc),

@@ -48,6 +48,7 @@ pub fn mixed(alloc: Global, blocks: u32) -> Result<Option<Code>, AllocError>
     }
     Ok(Some(Code {
         instrs,
+        runs: List::new(alloc),
         ports,
         wides,
         shown: List::new(alloc),

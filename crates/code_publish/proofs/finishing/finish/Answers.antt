@@ -1,6 +1,7 @@
-use Rattle.std.proofs.Common.{◌≡◌, refl, ap, ◌∙◌, arith}
+use Rattle.std.proofs.Common.{◌≡◌, refl, ap, ◌∙◌, sym, subst, arith}
 use Rattle.flat_code.specs.Meaning.{pushes}
 use Rattle.flat_code.specs.Fine.{nothing}
+use Rattle.flat_code.specs.Runs.{AreRuns}
 use Rattle.flat_code.proofs.Solving.{ready_if_single}
 use Rattle.code_publish.proofs.Effects.{has_effects}
 use Rattle.code_publish.proofs.finishing.finish.Goals as goal
@@ -18,6 +19,7 @@ invariant_of-result c =
       shown_last = λ k s lt. (c.requires.shown k s lt).written;
       each_shown = c.requires.positions;
       at_most = omega (arith, most);
+      runs_right = subst (AreRuns d.instrs) (sym c.new.ensures) (λ k r lt. absurd (omega arith));
     }
 
 pub returns-clause-effects : goal.returns-clause-effects
