@@ -1,5 +1,5 @@
 -- The greatest of numbers, and how many assignments are live at most.
-use Rattle.std.proofs.Common.{◌≡◌, ℕ, zero, suc, ◌+◌, ◌*◌, ◌<◌, ◌≤◌, List, [], ◌∷◌, ◌++◌, flat_map, filter, map, length, take, drop, Contains, refl, sym, ap, ap₂, ◌∙◌, arith, ⊎_elim, length-append, take_at, drop_at}
+use Rattle.std.proofs.Common.{◌≡◌, ℕ, zero, suc, ◌+◌, ◌*◌, ◌<◌, ◌≤◌, List, [], ◌∷◌, ◌++◌, flat_map, filter, map, length, take, drop, get_or, Contains, refl, sym, ap, ap₂, ◌∙◌, arith, ⊎_elim, length-append, take_at, drop_at}
 use Rattle.std.specs.List.{range_with_len}
 use Rattle.ground_net.specs.declared.net.Net.{Net}
 use Rattle.ground_net.specs.declared.net.CutPart.{CutPart}
@@ -11,6 +11,18 @@ use Rattle.part_compile.specs.SlotBounds.{greatest, sinks_read, live_behind, mos
 pub in_greatest : (ns : List ℕ) (n : ℕ) → Contains ns n → n ≤ greatest ns
 in_greatest [] n c = absurd (none_in n c)
 in_greatest (m ∷ ns) n c = ⊎_elim (λ e. omega (arith, e)) (λ d. let rest = in_greatest ns n d in omega (arith, rest)) (cons_cases m ns n c)
+
+pub greatest_within : (xs ys : List ℕ) → ((y : ℕ) → Contains xs y → Contains ys y) → greatest xs ≤ greatest ys
+greatest_within [] ys sub = omega arith
+greatest_within (x ∷ xs) ys sub =
+    let here = in_greatest ys x (sub x (0, omega arith, refl)) in
+    let rest = greatest_within xs ys (λ y c. sub y (let lt = c.1 in (suc c.0, omega (arith, lt), c.2))) in
+    omega (arith, here, rest)
+
+pub mapped_greatest : {X : Type 0} (f : X → ℕ) (xs : List X) (k : ℕ) (d : X) → k < length xs → f (get_or xs k d) ≤ greatest (map f xs)
+mapped_greatest f [] k d lt = absurd (omega arith)
+mapped_greatest f (x ∷ xs) zero d lt = omega arith
+mapped_greatest f (x ∷ xs) (suc k) d lt = let rest = mapped_greatest f xs k d (omega (arith, lt)) in omega (arith, rest)
 
 at_greatest : (f : ℕ → ℕ) (n from k : ℕ) → k < n → f (from + k) ≤ greatest (map f (range_with_len from n))
 at_greatest f zero from k lt = absurd (omega (arith, lt))

@@ -4,6 +4,7 @@ pub mod Counts
 pub mod Staying
 pub mod Standing
 pub mod Greatest
+pub mod Nodes
 pub mod Frames
 pub mod Building
 pub mod Driving
@@ -19,3 +20,4 @@ pub mod Filtered
 pub mod Told
 pub mod Framing
 pub mod Rooming
+pub mod Shared

@@ -17,7 +17,7 @@ use Rattle.cone_cutter.specs.Rows.{sink_of}
 use Rattle.cone_cutter.proofs.Lists.{none_in, cons_cases}
 use Rattle.part_compile.specs.declared.live_count.LiveCount.{LiveCount}
 use Rattle.part_compile.specs.Counts.{is_read, CountsLive, ReadsMore, Passes}
-use Rattle.part_compile.specs.Rooms.{read_by_sinks, read_from, live_before, HasRoom}
+use Rattle.part_compile.specs.Rooms.{read_by_sinks, read_from, live_before, AreLive}
 use Rattle.part_compile.proofs.Marks.{filter_le}
 
 false_true : false ≡ true → ⊥
@@ -54,8 +54,8 @@ module _ (net : Net) (watch : List ℕ) (part : CutPart) where
   abbrev pub CountsAt : ℕ → LiveCount → Type 0
   CountsAt k t = CountsLive (read_from net watch part k) (take k part.assignments) t
 
-  pub no_room : HasRoom net watch part 0
-  no_room = record { at = 0; few = omega arith }
+  pub no_live : AreLive net watch part 0
+  no_live = record { at = 0; few = omega arith }
 
   -- behind the last position
   pub at_last : (n : ℕ) (t : LiveCount) → n ≡ length part.assignments → CountsLive (read_by_sinks net watch part) part.assignments t → CountsAt n t
@@ -66,20 +66,17 @@ module _ (net : Net) (watch : List ℕ) (part : CutPart) where
       (subst (λ d. CountsLive (read_by_sinks net watch part) d t) (sym (take_all n xs (omega (arith, e)))) k))
 
   -- what is counted at a position
-  pub counted_room : (k : ℕ) (t : LiveCount) → CountsAt k t → HasRoom net watch part (2 * t.count)
-  counted_room k t c =
+  pub counted_live : (k : ℕ) (t : LiveCount) → CountsAt k t → AreLive net watch part t.count
+  counted_live k t c =
       let few = c.few in
       let le = filter_le (is_read t) (among (read_from net watch part k)) (take k part.assignments) (λ y e. among_there (read_from net watch part k) y (c.only y e)) in
       record { at = k; few = omega (arith, few, le) }
 
-  pub most_room : (a b m : ℕ) → HasRoom net watch part (2 * a) → HasRoom net watch part (2 * b) → m ≡ max a b → HasRoom net watch part (2 * m)
-  most_room a b m h g e = ⊎_elim
+  pub more_live : (a b m : ℕ) → AreLive net watch part a → AreLive net watch part b → m ≡ max a b → AreLive net watch part m
+  more_live a b m h g e = ⊎_elim
       (λ lt. let few = g.few in record { at = g.at; few = omega (arith, few, lt, e) })
       (λ le. let few = h.few in record { at = h.at; few = omega (arith, few, le, e) })
       (cases_lt a b)
-
-  pub less_room : (a b : ℕ) → HasRoom net watch part a → b ≤ a → HasRoom net watch part b
-  less_room a b h le = let few = h.few in record { at = h.at; few = omega (arith, few, le) }
 
   -- one position back
   pub stepped : (k x : ℕ) (old mid new : LiveCount) → k < length part.assignments → x ≡ slice_index part.assignments k → Passes x old mid → ReadsMore (direct_reads net x) mid new → CountsAt (k + 1) old → CountsAt k new

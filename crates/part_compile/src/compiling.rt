@@ -8,11 +8,11 @@ ghost use Rattle.cone_cutter.specs.Splits.{IsSplit};
 ghost use Rattle.partition_code.specs.Codes.{AreCodesOf};
 ghost use Rattle.part_compile.specs.Frames.{TakeFewSlots};
 
+use crate::arranging::arrange_once;
 use crate::counting::has_few_words;
 use crate::part_code::code_of;
 use crate::room::room_of;
 use bit_words::List;
-use code_order::arrange;
 use code_parts::{Plan, captured_reads, first_words, have_numbers};
 use cone_cutter::sinks_of;
 use flat_code::Code;
@@ -65,7 +65,7 @@ pub fn compile(
     for part in cut.parts.as_slice() {
         let code = code_of(alloc, &plan, sinks.as_slice(), part)?;
         let room = room_of(alloc, net, watch, sinks.as_slice(), part)?;
-        codes.push(arrange(alloc, code, room)?)?;
+        codes.push(arrange_once(alloc, code, room)?)?;
     }
     Ok(codes)
 }

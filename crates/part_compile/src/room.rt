@@ -4,17 +4,19 @@ ghost use Rattle.std.specs.Prelude.{◌≡◌, map, IfOk};
 ghost use Rattle.ground_net.specs.Reads.{direct_reads, driver_of};
 ghost use Rattle.ground_net.specs.Cones.{needs, register_needs, mentioned_by, mentioned_by_reset, sinks as sinks_in};
 ghost use Rattle.cone_cutter.specs.Rows.{sink_of};
-ghost use Rattle.part_compile.specs.Rooms.{HasRoom, read_by_sinks};
+ghost use Rattle.part_compile.specs.Rooms.{AreLive, HasRoom, read_by_sinks};
 ghost use Rattle.part_compile.specs.Counts.{CountsLive, ReadsMore};
 
 use crate::live_count::{LiveCount, none_read, pass_leaf, read_ground, read_leaf};
+use crate::node_count::largest_driver;
 use cone_cutter::SinkAt;
 use ground_net::{CutPart, Net, NetRegister, NetReset, Role};
 use std::alloc::{AllocError, Global};
 
-/// Two slots for each assignment of a part that is live at once, as far as a `u32` counts. The sinks are those of the net, by their numbers.
+/// Two slots for each assignment of a part that is live at once and for each node of its largest driver, as far as a `u32` counts. The
+/// sinks are those of the net, by their numbers.
 ///
-/// What memories read is not counted. Takes memory for two bytes of each leaf of the net, and time in proportion to these and to the
+/// What memories read and evaluate is not counted. Takes memory for two bytes of each leaf of the net, and time in proportion to these and to the
 /// drivers of the part.
 pub fn room_of(
     alloc: Global,
@@ -28,7 +30,9 @@ pub fn room_of(
 {
     let mut live = none_read(alloc, net.leaves.len(), part.assignments.as_slice())?;
     read_sinks(&mut live, net, watch, sinks, part);
-    Ok(most_slots(live, net, watch, part))
+    let most = most_live(live, net, watch, part);
+    let nodes = largest_driver(net, watch, sinks, part);
+    Ok(most.saturating_add(nodes).saturating_mul(2))
 }
 
 /// Reads what the sinks of a part need themselves.
@@ -97,10 +101,10 @@ fn read_assignment(live: &mut LiveCount, net: &Net, number: u32)
     }
 }
 
-/// Two slots for each assignment of a part that is live at once, where what its sinks read is read.
-fn most_slots(live: LiveCount, net: &Net, watch: &[u32], part: &CutPart) -> u32
+/// The greatest number of assignments of a part that are live at once, where what its sinks read is read.
+fn most_live(live: LiveCount, net: &Net, watch: &[u32], part: &CutPart) -> u32
     requires { CountsLive (read_by_sinks net.now watch.now part.now) part.now.assignments live }
-    ensures { HasRoom net.now watch.now part.now result }
+    ensures { AreLive net.now watch.now part.now result }
 {
     let mut live = live;
     let assignments = part.assignments.as_slice();
@@ -113,5 +117,5 @@ fn most_slots(live: LiveCount, net: &Net, watch: &[u32], part: &CutPart) -> u32
         pass_leaf(&mut live, leaf);
         read_assignment(&mut live, net, leaf);
     }
-    most.saturating_mul(2)
+    most
 }

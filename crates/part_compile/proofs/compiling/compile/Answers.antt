@@ -34,12 +34,12 @@ loop-part-preserved c =
     let there : slice_get parts i ≡ Some part = ap (λ l. slice_get l i) (sym c.as_slice-part-items.ensures) ∙ (slice_get-get_or xs i part below ∙ ap Some (sym c.part-item.is)) in
     let net = c.args.ordered.now.net in
     let watch = c.args.watch.now in
-    let new = c.in_ok-arrange.field-0 in
-    let is = placed_is_code net watch part c.in_ok-code.code new c.in_ok-code.ensures.code c.in_ok-arrange.ensures.placed in
+    let new = c.in_ok-arrange_once.field-0 in
+    let is = placed_is_code net watch part c.in_ok-code.code new c.in_ok-code.ensures.code c.in_ok-arrange_once.ensures.placed in
     let had = c.loop-part.invariant in
     let drivers = have_drivers net c.requires.net watch part c.args.ordered.now.sequence (c.requires.split.unions i part there) in
     let few : TakesFewSlots net watch part new = λ watches. placed_few net watch part drivers c.in_ok-code.code new c.in_ok-room.room (c.in_ok-code.ensures.pieces watches) (room_fits net watch part c.in_ok-room.room c.in_ok-room.ensures)
-    c.in_ok-arrange.ensures.few.few c.in_ok-arrange.ensures.few.fewer in (
+    c.in_ok-arrange_once.ensures.few.few c.in_ok-arrange_once.ensures.few.fewer in (
       subst (AreCodesOf net watch (take (i + 1) parts)) (sym c.in_ok-push.ensures.ok) (codes_more net watch parts i part c.loop-part.codes new there had.0 is),
       subst (TakeFewSlots net watch (take (i + 1) parts)) (sym c.in_ok-push.ensures.ok) (few_more net watch parts i part c.loop-part.codes new there had.0.counted had.1 few),
     )

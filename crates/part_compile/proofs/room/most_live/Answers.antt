@@ -1,6 +1,6 @@
 use Rattle.std.proofs.Common.{◌≡◌, ◌+◌, ◌-◌, ◌<◌, ◌≤◌, length, slice_index, sym, subst, ap, ◌∙◌, arith}
-use Rattle.part_compile.proofs.Walking.{CountsAt, counted_room, most_room, stepped}
-use Rattle.part_compile.proofs.room.most_slots.Goals as goal
+use Rattle.part_compile.proofs.Walking.{CountsAt, counted_live, more_live, stepped}
+use Rattle.part_compile.proofs.room.most_live.Goals as goal
 
 pub loop-at-preserved : goal.loop-at-preserved
 loop-at-preserved c =
@@ -15,7 +15,7 @@ loop-at-preserved c =
     let one : (c.loop-at.at - 1) + 1 ≡ c.loop-at.at = omega (arith, some) in
     let below : c.loop-at.at - 1 < length c.args.part.now.assignments = omega (arith, some, long) in
     let here : CountsAt net watch part ((c.loop-at.at - 1) + 1) c.loop-at.live = subst (λ k. CountsAt net watch part k c.loop-at.live) (sym one) had.1.0 in (
-      most_room net watch part c.loop-at.live.count c.loop-at.most c.max-most.result (counted_room net watch part at c.loop-at.live had.1.0) had.0 (omega (arith, most)),
+      more_live net watch part c.loop-at.live.count c.loop-at.most c.max-most.result (counted_live net watch part at c.loop-at.live had.1.0) had.0 (omega (arith, most)),
       (
         stepped net watch part (at - 1) _ c.loop-at.live c.pass_leaf.new.live c.read_assignment.new.live below (ap (λ xs. slice_index xs (c.loop-at.at - 1)) c.as_slice-assignments.ensures) c.pass_leaf.ensures c.read_assignment.ensures here,
         omega (arith, long),

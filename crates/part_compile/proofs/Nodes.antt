@@ -1,0 +1,78 @@
+-- The nodes of an expression and of a driver.
+use Rattle.std.proofs.Common.{◌≡◌, ℕ, ◌+◌, ◌<◌, ◌≤◌, max, List, [], ◌∷◌, ◌++◌, map, flat_map, length, slice_get, slice_index, Option, Some, None, Contains, sum, refl, sym, ap, ◌∙◌, arith}
+use Rattle.std.specs.Prelude.{filter_map}
+use Rattle.std.proofs.lemmas.Grind.{common_steps}
+use Rattle.std.proofs.lemmas.List.Elements.{Contains-append_left, Contains-append_right}
+use Rattle.bit_words.specs.declared.value.Kind.{Kind}
+use Rattle.prim_ops.specs.declared.operation.PrimOp.{PrimOp}
+use Rattle.ground_net.specs.declared.ground.Ground.{Ground, the_lemmas}
+use Rattle.ground_net.specs.declared.ground.Ground.TheVariants.{Leaf, Op, Mux, Select, Load, Fit}
+use Rattle.ground_net.specs.declared.net.Net.{Net}
+use Rattle.ground_net.specs.declared.net.NetRegister.{NetRegister}
+use Rattle.ground_net.specs.declared.net.CutPart.{CutPart}
+use Rattle.ground_net.specs.Reads.{driver_of}
+use Rattle.ground_net.specs.Cones.{Sink, A_register, sinks}
+use Rattle.ground_net.proofs.Layers.{maps}
+use Rattle.code_emit.specs.Counts.{nodes}
+use Rattle.code_registers.specs.Nexts.{driven_ground}
+use Rattle.partition_code.specs.Codes.{sinks_of_part}
+use Rattle.part_compile.specs.SlotBounds.{greatest, nodes_of, nodes_of_reset, assignment_nodes, register_nodes, nodes_of_register, sink_nodes, sinks_nodes, most_nodes}
+use Rattle.part_compile.proofs.Greatest.{greatest_within}
+use Rattle.part_compile.proofs.Walking.{needed_at}
+
+pub nodes-Op : (prim : PrimOp) (items : List Ground) (params : List ℕ) → nodes (Op prim items params) ≡ 1 + sum (map nodes items)
+nodes-Op prim items params = grind (arith, common_steps, the_lemmas, maps)
+
+pub nodes-Mux : (items : List Ground) → nodes (Mux items) ≡ 1 + sum (map nodes items)
+nodes-Mux items = grind (arith, common_steps, the_lemmas, maps)
+
+pub nodes-Fit : (kind : Kind) (width : ℕ) (items : List Ground) → nodes (Fit kind width items) ≡ 1 + sum (map nodes items)
+nodes-Fit kind width items = grind (arith, common_steps, the_lemmas, maps)
+
+pub nodes-Load : (m k : ℕ) (items : List Ground) → nodes (Load m k items) ≡ 1 + sum (map nodes items)
+nodes-Load m k items = grind (arith, common_steps, the_lemmas, maps)
+
+pub nodes-Select : (index items : List Ground) → nodes (Select index items) ≡ 1 + (sum (map nodes index) + sum (map nodes items))
+nodes-Select index items = grind (arith, common_steps, the_lemmas, maps)
+
+-- what isn't driven keeps its value
+pub driven_more : (x : ℕ) (o : Option Ground) → nodes_of o ≤ nodes (driven_ground x o)
+driven_more x (Some g) = omega arith
+driven_more x None = omega arith
+
+-- a register by its number
+pub register_counted : (net : Net) (o : Option NetRegister) (register : NetRegister) (n : ℕ) → o ≡ Some register → n ≤ nodes_of (driver_of net register.leaf) + nodes_of_reset register.reset
+    → n ≤ greatest (nodes_of_register net o)
+register_counted net None register n e le = absurd (none_some e)
+  where
+    none_some : None ≡ Some register → ⊥
+    none_some e = cc
+register_counted net (Some r) register n e le =
+    let more = driven_more register.leaf (driver_of net register.leaf) in
+    let same : register_nodes net r ≡ register_nodes net register = ap (register_nodes net) (some_same e) in
+    omega (arith, le, more, same)
+  where
+    some_same : Some r ≡ Some register → r ≡ register
+    some_same e = cc
+
+-- a sink of a part by its number
+pub sink_counted : (net : Net) (watch : List ℕ) (part : CutPart) (numbers : List ℕ) (i : ℕ) (sink : Sink) (n : ℕ) → numbers ≡ part.sinks → i < length numbers → slice_get (sinks net watch) (slice_index numbers i) ≡ Some sink
+    → n ≤ greatest (sink_nodes net sink) → n ≤ greatest (sinks_nodes net watch part)
+sink_counted net watch part numbers i sink n same lt there le =
+    let all : greatest (sink_nodes net sink) ≤ greatest (flat_map (sink_nodes net) (filter_map (slice_get (sinks net watch)) numbers)) =
+    greatest_within (sink_nodes net sink) (flat_map (sink_nodes net) (filter_map (slice_get (sinks net watch)) numbers)) (λ y d. needed_at (sinks net watch) (sink_nodes net) numbers i sink y lt there d)
+    in
+    let these : greatest (flat_map (sink_nodes net) (filter_map (slice_get (sinks net watch)) numbers)) ≡ greatest (sinks_nodes net watch part) =
+    ap (λ ks. greatest (flat_map (sink_nodes net) (filter_map (slice_get (sinks net watch)) ks))) same
+    in
+    omega (arith, le, all, these)
+
+-- the largest driver of a part is one of its assignments or of its sinks
+pub most_counted : (net : Net) (watch : List ℕ) (part : CutPart) (a b n : ℕ) → a ≤ greatest (map (assignment_nodes net) part.assignments) → b ≤ greatest (sinks_nodes net watch part) → n ≡ max a b
+    → n ≤ most_nodes net watch part
+most_counted net watch part a b n x y e =
+    let xs = map (assignment_nodes net) part.assignments in
+    let ys = sinks_nodes net watch part in
+    let left : greatest xs ≤ most_nodes net watch part = greatest_within xs (xs ++ ys) (λ z c. Contains-append_left xs ys z c) in
+    let right : greatest ys ≤ most_nodes net watch part = greatest_within ys (xs ++ ys) (λ z c. Contains-append_right xs ys z c) in
+    omega (arith, x, y, e, left, right)
