@@ -80,8 +80,8 @@ counted_all pieces i count past h = let here : count + 0 ≡ shows pieces = ap (
 abbrev pub seen_items : List (Bor PrintItem) → List PrintItem
 seen_items items = map (λ (item : Bor PrintItem). item.now) items
 
-pub record AtItem (items : List (Bor PrintItem)) (row : List Value) (i : ℕ) (rest : List Value) (text : List ℕ) : Type 0 where
-  pub texts : items_text (seen_items items) row ≡ text ++ items_text (seen_items (drop i items)) rest
+pub record AtItem (items : List (Bor PrintItem)) (row : List Value) (i : ℕ) (rest : List Value) (old new : List ℕ) : Type 0 where
+  pub texts : old ++ items_text (seen_items items) row ≡ new ++ items_text (seen_items (drop i items)) rest
   pub fits : IsLogRow (seen_items (drop i items)) rest
 
 pub record AtCode (items : List (Bor PrintItem)) (row : List Value) (i : ℕ) (rest : List Value) : Type 0 where

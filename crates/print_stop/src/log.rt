@@ -1,6 +1,6 @@
 //! The log of a run.
 
-ghost use Rattle.std.specs.Prelude.{◌≡◌, ◌≤◌, length, take, drop, map, IfOk};
+ghost use Rattle.std.specs.Prelude.{◌≡◌, ◌≤◌, ◌++◌, length, take, drop, map, IfOk, OnOk};
 ghost use Rattle.print_stop.specs.Printed.{stopped_line, ended_line};
 ghost use Rattle.print_stop.specs.Logging.{places, items_text, items_code, feed, last_line, IsLogRow};
 
@@ -32,14 +32,14 @@ impl<'a> Teller for Log<'a> {
         Ok(Vec::new(alloc))
     }
 
-    fn row(
+    fn push_row(
         &self,
-        alloc: Global,
+        text: &mut Vec<u8>,
         _cycle: u64,
         _before: Option<&Row>,
         row: &Row,
-    ) -> Result<Vec<u8>, AllocError> {
-        items_text(alloc, self.items.as_slice(), row.as_slice())
+    ) -> Result<(), AllocError> {
+        push_items(text, self.items.as_slice(), row.as_slice())
     }
 
     fn ends(&self, row: &Row) -> bool {
@@ -58,21 +58,20 @@ impl<'a> Teller for Log<'a> {
     }
 }
 
-/// What all items print.
-fn items_text(alloc: Global, items: &[&PrintItem], row: &[Value]) -> Result<Vec<u8>, AllocError>
+/// Adds what all items print.
+fn push_items(text: &mut Vec<u8>, items: &[&PrintItem], row: &[Value]) -> Result<(), AllocError>
     requires { IsLogRow (map (λ item. item.now) items.now) row.now }
-    ensures { IfOk result (λ text. text.items ≡ items_text (map (λ item. item.now) items.now) row.now) }
+    ensures { OnOk result (text.new.items ≡ text.old.items ++ items_text (map (λ item. item.now) items.now) row.now) }
 {
-    let mut text = Vec::new(alloc);
     let mut rest = row;
     for item in items {
         let (own, behind) = split(item, rest);
         if own[0].bits == 1 {
-            push_text(&mut text, item.pieces.as_slice(), &own[1..])?;
+            push_text(text, item.pieces.as_slice(), &own[1..])?;
         }
         rest = behind;
     }
-    Ok(text)
+    Ok(())
 }
 
 /// The code of the first `stop` that is enabled.

@@ -1,6 +1,6 @@
 //! The texts of an epoch's rows.
 
-ghost use Rattle.std.specs.Prelude.{◌≡◌, ℕ, ◌+◌, ◌^◌, ◌<◌, ◌≤◌, length, take, All, Some, IfOk, IfSome, option_copied, slice_index_or, []};
+ghost use Rattle.std.specs.Prelude.{◌≡◌, ℕ, ◌+◌, ◌^◌, ◌<◌, ◌≤◌, ◌++◌, length, take, All, Some, IfOk, OnOk, IfSome, option_copied, slice_index_or, []};
 ghost use Rattle.std.specs.List.{list_any};
 ghost use Rattle.row_texts.specs.Tellings.{last_from, told_of, rows_text};
 
@@ -16,7 +16,7 @@ pub struct Lines {
     pub ended: bool,
 }
 
-/// The texts of rows behind a place, up to the first one that ends the run.
+/// The texts of rows behind a place, up to the first one that ends the run, in one block.
 pub fn tell_rows<T: Teller>(
     alloc: Global,
     teller: &T,
@@ -37,8 +37,7 @@ pub fn tell_rows<T: Teller>(
     let mut told = 0;
     let mut ended = false;
     while told < rows.len() && !ended {
-        let text = tell_row(alloc, teller, spot, rows, told)?;
-        bytes.extend_from_slice(text.as_slice())?;
+        push_told(teller, &mut bytes, spot, rows, told)?;
         ended = teller.ends(&rows[told]);
         told += 1;
     }
@@ -55,22 +54,22 @@ pub fn tell_rows<T: Teller>(
     })
 }
 
-/// The text of the row of this number behind a place.
-fn tell_row<T: Teller>(
-    alloc: Global,
+/// Adds the text of the row of this number behind a place.
+fn push_told<T: Teller>(
     teller: &T,
+    text: &mut Vec<u8>,
     spot: &Spot,
     rows: &[Row],
     at: usize,
-) -> Result<Vec<u8>, AllocError>
+) -> Result<(), AllocError>
     requires reads { All (T.reads teller.now) rows.now }
     requires before { IfSome spot.now.before (T.reads teller.now) }
     requires numbers { spot.now.cycle + length rows.now < 2 ^ 64 }
     requires there { at < length rows.now }
-    ensures { IfOk result (λ text. text.items ≡ (T.tells teller.now).row (spot.now.cycle + at) (last_from spot.now.before (take at rows.now)) (slice_index_or rows.now at [])) }
+    ensures { OnOk result (text.new.items ≡ text.old.items ++ (T.tells teller.now).row (spot.now.cycle + at) (last_from spot.now.before (take at rows.now)) (slice_index_or rows.now at [])) }
 {
     let before = row_before(spot, rows, at);
-    teller.row(alloc, spot.cycle + at as u64, before, &rows[at])
+    teller.push_row(text, spot.cycle + at as u64, before, &rows[at])
 }
 
 /// The row before the one of this number behind a place.

@@ -1,6 +1,6 @@
 //! What a run writes.
 
-ghost use Rattle.std.specs.Prelude.{◌≡◌, List as Listed, IfOk, IfSome, option_copied};
+ghost use Rattle.std.specs.Prelude.{◌≡◌, List as Listed, ◌++◌, IfOk, OnOk, IfSome, option_copied};
 ghost use Rattle.bit_words.specs.declared.value.Value.{Value as OneValue};
 ghost use Rattle.row_texts.specs.Tellings.{Telling};
 
@@ -30,17 +30,17 @@ pub trait Teller {
     fn head(&self, alloc: Global) -> Result<Vec<u8>, AllocError>
         ensures { IfOk result (λ bytes. bytes.items ≡ (tells self.now).head) };
 
-    /// The text of a row, by the number of its cycle and the row before it.
-    fn row(
+    /// Adds the text of a row, by the number of its cycle and the row before it.
+    fn push_row(
         &self,
-        alloc: Global,
+        text: &mut Vec<u8>,
         cycle: u64,
         before: Option<&Row>,
         row: &Row,
-    ) -> Result<Vec<u8>, AllocError>
+    ) -> Result<(), AllocError>
         requires row { reads self.now row.now }
         requires before { IfSome (option_copied before) (reads self.now) }
-        ensures { IfOk result (λ bytes. bytes.items ≡ (tells self.now).row cycle (option_copied before.entry) row.now) };
+        ensures { OnOk result (text.new.items ≡ text.old.items ++ (tells self.now).row cycle (option_copied before.entry) row.now) };
 
     /// Whether the run ends behind the row.
     fn ends(&self, row: &Row) -> bool

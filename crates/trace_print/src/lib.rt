@@ -11,4 +11,4 @@ mod trace;
 pub use component::Component;
 pub use declarations::components;
 pub use listing::widths_text;
-pub use trace::{header, trace_line};
+pub use trace::{header, push_trace_line, trace_line};

@@ -1,9 +1,9 @@
 -- One more value of a row.
-use Rattle.std.proofs.Common.{◌≡◌, ℕ, suc, ◌+◌, ◌<◌, Bool, true, false, cond, eqb, List, [], ◌∷◌, ◌++◌, length, map, take, get_or, Some, sym, ap, ap₂, ◌∙◌, arith, slice_get, append_assoc}
+use Rattle.std.proofs.Common.{◌≡◌, ℕ, suc, ◌+◌, ◌<◌, Bool, true, false, cond, eqb, List, [], ◌∷◌, ◌++◌, length, map, take, get_or, Some, refl, sym, ap, ap₂, ◌∙◌, arith, slice_get, append_assoc}
 use Rattle.std.specs.Prelude.{flat_map, unwrap_or, option_map}
 use Rattle.std.specs.List.{enumerate_from}
 use Rattle.std.proofs.lemmas.Bool.{eq-eqb, ne_eqb}
-use Rattle.std.proofs.lemmas.List.{length-map, length-take-le, map-append, append-nil, take_more}
+use Rattle.std.proofs.lemmas.List.{length-map, length-take-le, length-append, map-append, append-nil, take_more}
 use Rattle.std.proofs.lemmas.Grind.{flat_map-append}
 use Rattle.std.proofs.lemmas.Option.{slice_get-map, slice_get-get_or}
 use Rattle.bit_words.specs.declared.value.Value.{Value}
@@ -11,6 +11,18 @@ use Rattle.ground_net.specs.declared.net.PortLeaf.{PortLeaf}
 use Rattle.vcd_write.specs.Changes.{Entry, Time, Change, all_bits, changes, stamped}
 use Rattle.vcd_write.specs.Texts.{change_line, entry_line, var_line, ended, bits_of_row}
 use Rattle.vcd_write.specs.Pieces.{widths_of_row, entries_text}
+
+-- a text that stands behind another goes on
+pub behind : (old told line next text new : List ℕ) → text ≡ old ++ told → new ≡ text ++ line → told ++ line ≡ next → new ≡ old ++ next
+behind old told line next text new was put more = put ∙ (ap (λ t. t ++ line) was ∙ (append_assoc old told line ∙ ap (λ l. old ++ l) more))
+
+-- nothing stands behind it where it is as long as the other, and else something
+pub none_behind : (old told text : List ℕ) → text ≡ old ++ told → length text ≡ length old → told ≡ []
+none_behind old [] text was even = refl
+none_behind old (b ∷ bs) text was even = let long = ap length was ∙ length-append old (b ∷ bs) in absurd (omega (arith, long, even))
+
+pub some_behind : (old told text : List ℕ) → text ≡ old ++ told → (length text ≡ length old → ⊥) → told ≡ [] → ⊥
+some_behind old told text was more none = let long = ap length was ∙ length-append old told in let empty : length told ≡ 0 = ap length none in more (omega (arith, long, empty))
 
 told_more : (widths : List ℕ) (es : List Entry) (e : Entry) → entries_text widths (es ++ e ∷ []) ≡ entries_text widths es ++ ended (entry_line widths e)
 told_more widths es e =

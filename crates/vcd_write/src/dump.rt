@@ -32,22 +32,22 @@ pub(crate) fn front(alloc: Global, top: &[u8], vars: &List<PortLeaf>) -> Result<
     Ok(text)
 }
 
-/// What a cycle adds, from the row of the cycle before it and its own: its time and the values that changed, or nothing where none did.
-/// Where no row stands before it, all its values. Both rows have values of the same kinds and widths.
+/// Adds what a cycle adds, from the row of the cycle before it and its own: its time and the values that changed, or nothing where none
+/// did. Where no row stands before it, all its values. Both rows have values of the same kinds and widths.
 ///
 /// Takes one comparison for each value, and memory for the changes alone.
-pub fn vcd_cycle(
-    alloc: Global,
+pub fn push_cycle(
+    text: &mut Vec<u8>,
     cycle: u64,
     before: Option<&Row>,
     row: &Row,
-) -> Result<Vec<u8>, AllocError>
+) -> Result<(), AllocError>
     requires { ForSome before (λ old. HaveShapesOf old.now row.now) }
-    ensures { IfOk result (λ text. text.items ≡ cycle_text cycle (option_map (λ old. old.now) before.entry) row.now) }
+    ensures { OnOk result (text.new.items ≡ text.old.items ++ cycle_text cycle (option_map (λ old. old.now) before.entry) row.now) }
 {
     match before {
-        Some(old) => changes_text(alloc, cycle, old.as_slice(), row.as_slice()),
-        None => values_text(alloc, cycle, row.as_slice()),
+        Some(old) => push_changes(text, cycle, old.as_slice(), row.as_slice()),
+        None => push_values(text, cycle, row.as_slice()),
     }
 }
 
@@ -70,36 +70,35 @@ fn push_variables(text: &mut Vec<u8>, vars: &[PortLeaf]) -> Result<(), AllocErro
     Ok(())
 }
 
-/// The time of a cycle and all its values.
-fn values_text(alloc: Global, cycle: u64, row: &[Value]) -> Result<Vec<u8>, AllocError>
-    ensures { IfOk result (λ text. text.items ≡ entries_text (widths_of_row row.now) (Time cycle ∷ all_bits 0 (bits_of_row row.now))) }
+/// Adds the time of a cycle and all its values.
+fn push_values(text: &mut Vec<u8>, cycle: u64, row: &[Value]) -> Result<(), AllocError>
+    ensures { OnOk result (text.new.items ≡ text.old.items ++ entries_text (widths_of_row row.now) (Time cycle ∷ all_bits 0 (bits_of_row row.now))) }
 {
-    let mut text = Vec::new(alloc);
-    push_time(&mut text, cycle)?;
+    push_time(text, cycle)?;
     for (number, value) in row.iter().enumerate() {
-        push_change(&mut text, number, *value)?;
+        push_change(text, number, *value)?;
     }
-    Ok(text)
+    Ok(())
 }
 
-/// The time of a cycle and the values that differ from those before, or nothing where none does.
-fn changes_text(
-    alloc: Global,
+/// Adds the time of a cycle and the values that differ from those before, or nothing where none does.
+fn push_changes(
+    text: &mut Vec<u8>,
     cycle: u64,
     before: &[Value],
     row: &[Value],
-) -> Result<Vec<u8>, AllocError>
+) -> Result<(), AllocError>
     requires { length before.now ≡ length row.now }
-    ensures { IfOk result (λ text. text.items ≡ entries_text (widths_of_row row.now) (stamped cycle (changes 0 (bits_of_row before.now) (bits_of_row row.now)))) }
+    ensures { OnOk result (text.new.items ≡ text.old.items ++ entries_text (widths_of_row row.now) (stamped cycle (changes 0 (bits_of_row before.now) (bits_of_row row.now)))) }
 {
-    let mut text = Vec::new(alloc);
+    let start = text.len();
     for (number, value) in row.iter().enumerate() {
         if before[number].bits != value.bits {
-            if text.is_empty() {
-                push_time(&mut text, cycle)?;
+            if text.len() == start {
+                push_time(text, cycle)?;
             }
-            push_change(&mut text, number, *value)?;
+            push_change(text, number, *value)?;
         }
     }
-    Ok(text)
+    Ok(())
 }

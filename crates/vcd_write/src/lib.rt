@@ -8,5 +8,5 @@ pub mod laws;
 mod pushing;
 pub mod text;
 
-pub use dump::{vcd_cycle, vcd_end, vcd_header};
+pub use dump::{push_cycle, vcd_end, vcd_header};
 pub use text::DumpText;

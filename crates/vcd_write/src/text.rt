@@ -4,7 +4,7 @@ ghost use Rattle.std.specs.List.{AllZip};
 ghost use Rattle.vcd_write.specs.Reading.{IsOfLeaf};
 ghost use Rattle.vcd_write.specs.Pieces.{dump_telling};
 
-use crate::dump::{front, vcd_cycle, vcd_end};
+use crate::dump::{front, push_cycle, vcd_end};
 use bit_words::{List, Row};
 use ground_net::PortLeaf;
 use row_texts::{Spot, Teller};
@@ -27,14 +27,14 @@ impl Teller for DumpText<'_> {
         front(alloc, self.top, self.vars)
     }
 
-    fn row(
+    fn push_row(
         &self,
-        alloc: Global,
+        text: &mut Vec<u8>,
         cycle: u64,
         before: Option<&Row>,
         row: &Row,
-    ) -> Result<Vec<u8>, AllocError> {
-        vcd_cycle(alloc, cycle, before, row)
+    ) -> Result<(), AllocError> {
+        push_cycle(text, cycle, before, row)
     }
 
     fn ends(&self, _row: &Row) -> bool {
