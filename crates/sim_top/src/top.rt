@@ -440,19 +440,24 @@ fn carry_out<R: Threads + Wait + Sync, G: Gate + Sync, K: Sink>(
     match decision {
         Decision::Say(reply) => say(sink, reply),
         Decision::Run(built, stimulus, watch) => {
-            run(alloc, crew, &errand_of(built, stimulus, watch.as_slice()), sink)
+            let errand = errand_of(built, stimulus, watch.as_slice());
+            run(alloc, crew, &errand, sink)
         }
         Decision::Dump(built, stimulus, numbers) => {
-            dump(alloc, crew, &errand_of(built, stimulus, numbers.as_slice()), sink)
+            let errand = errand_of(built, stimulus, numbers.as_slice());
+            dump(alloc, crew, &errand, sink)
         }
         Decision::Save(built, stimulus, start) => {
-            write_state(alloc, crew, &errand_of(built, stimulus, &[]), start, sink)
+            let errand = errand_of(built, stimulus, &[]);
+            write_state(alloc, crew, &errand, start, sink)
         }
         Decision::Resume(built, stimulus, watch, start) => {
-            go_on(alloc, crew, &errand_of(built, stimulus, watch.as_slice()), start, sink)
+            let errand = errand_of(built, stimulus, watch.as_slice());
+            go_on(alloc, crew, &errand, start, sink)
         }
         Decision::Log(built, stimulus) => {
-            log(alloc, crew, &errand_of(built, stimulus, &[]), sink)
+            let errand = errand_of(built, stimulus, &[]);
+            log(alloc, crew, &errand, sink)
         }
     }
 }
