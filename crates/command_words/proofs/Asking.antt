@@ -15,7 +15,7 @@ use Rattle.clap.specs.declared.builder.value_parser.ValueParser.TheVariants.{Sig
 use Rattle.clap.specs.declared.parser.matches.ArgMatches.{ArgMatches}
 use Rattle.command_words.specs.Commands.{AreOf, app_named, cycles_in, is_set, leaves_in, number_or, size_in, workers_in}
 use Rattle.command_words.specs.declared.commands.Name.{Name}
-use Rattle.command_words.specs.declared.commands.Name.TheVariants.{Run, Check, Widths, Cut, Make, Vcd, Refine, Save, Resume}
+use Rattle.command_words.specs.declared.commands.Name.TheVariants.{Run, Check, Widths, Cut, Make, Vcd, Refine, Save, Resume, Log}
 use Rattle.command_words.proofs.Given.{size_given}
 use Rattle.command_words.proofs.Numbers.{HasOnly, IsIn, is_own, number_found}
 use Rattle.command_words.proofs.Ranges.{make_cycles, make_size}
@@ -30,6 +30,7 @@ simple_named Vcd = refl
 simple_named Refine = refl
 simple_named Save = refl
 simple_named Resume = refl
+simple_named Log = refl
 
 simple_rules : (name : Name) → has_simple_rules (app_named name).top ≡ true
 simple_rules Run = refl
@@ -41,6 +42,7 @@ simple_rules Vcd = refl
 simple_rules Refine = refl
 simple_rules Save = refl
 simple_rules Resume = refl
+simple_rules Log = refl
 
 -- what `parse` gives of a text at `u32`
 abbrev pub Gives : Text → Result ℕ ParseIntError → Type 0

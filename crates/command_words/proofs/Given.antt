@@ -10,6 +10,7 @@ use Rattle.clap.specs.Simple.{has_simple_rules, is_ready, is_ready_leaf}
 use Rattle.clap.specs.Faults.{has_free_rules}
 use Rattle.clap.specs.Values.{read_as}
 use Rattle.clap.specs.Words.{App, IsParsedFrom, Rule, Text, app_of, args_of, first_value, found_of, matched_of, one_text, rule_of}
+use Rattle.clap.specs.declared.builder.action.ArgAction.TheVariants.{Set}
 use Rattle.clap.specs.declared.builder.arg.Arg.{Arg}
 use Rattle.clap.specs.declared.builder.command.Command.{Command}
 use Rattle.clap.specs.declared.builder.range.ValueRange.{ValueRange}
@@ -21,9 +22,9 @@ use Rattle.clap.proofs.CallerLemmas.{required_has_value}
 use Rattle.clap.proofs.FaultLemmas.{free_args}
 use Rattle.clap.proofs.SimpleLemmas.{ready_simple, simple_groups}
 use Rattle.clap.proofs.WalkLemmas.{both}
-use Rattle.command_words.specs.Commands.{app_named, cycles_rule, size_rule, workers_rule}
-use Rattle.command_words.specs.declared.commands.Name.TheVariants.{Make}
-use Rattle.command_words.proofs.Numbers.{own_flag, own_name}
+use Rattle.command_words.specs.Commands.{app_named, cycles_rule, given_circuit_rule, given_state_rule, size_rule, workers_rule}
+use Rattle.command_words.specs.declared.commands.Name.TheVariants.{Make, Resume}
+use Rattle.command_words.proofs.Numbers.{is_own, own_flag, own_name}
 
 -- the three arguments of three rules
 three : (xs : List Arg) (r s t : Rule) → map rule_of xs ≡ r ∷ s ∷ t ∷ []
@@ -80,29 +81,44 @@ plain_command old ready leaves free =
       simple.groups,
     )
 
--- `make` has its number
-pub size_given : (old : Command) (m : ArgMatches) → IsParsedFrom old m → app_of old ≡ app_named Make → is_some (one_text (found_of m) (codes "size")) ≡ true
-size_given old m p same =
-    let ready : is_ready (app_of old).top ≡ true = ap (λ (a : App). is_ready a.top) same in
-    let leaves : list_all is_ready_leaf (app_of old).subs ≡ true = ap (λ (a : App). list_all is_ready_leaf a.subs) same in
-    let free : has_free_rules (app_of old).top ≡ true = ap (λ (a : App). has_free_rules a.top) same in
-    let negates = ap (λ (a : App). a.top.subcommand_negates_reqs) same in
+-- A simple command of three arguments, where the third must be given, takes a value, and is the only one of its id.
+pub record AsksThird (app : App) (r s t : Rule) : Type 0 where
+  pub ready : is_ready app.top ≡ true
+  pub leaves : list_all is_ready_leaf app.subs ≡ true
+  pub free : has_free_rules app.top ≡ true
+  pub negates : app.top.subcommand_negates_reqs ≡ false
+  pub rules : app.top.rules ≡ r ∷ s ∷ t ∷ []
+  pub first : bytes_eq r.id t.id ≡ false
+  pub second : bytes_eq s.id t.id ≡ false
+  pub required : t.required ≡ true
+  pub set : t.action ≡ Some Set
+  pub least : 1 ≤ (unwrap_or_range t.range).start_inclusive
+  pub own : is_own t.id ≡ true
+
+-- such a command has its third argument
+third_given : (old : Command) (m : ArgMatches) → IsParsedFrom old m → (app : App) → app_of old ≡ app → (r s t : Rule) → AsksThird app r s t
+    → is_some (first_value (found_of m) t.id) ≡ true
+third_given old m p app same r s t h =
+    let ready : is_ready (app_of old).top ≡ true = ap (λ (a : App). is_ready a.top) same ∙ h.ready in
+    let leaves : list_all is_ready_leaf (app_of old).subs ≡ true = ap (λ (a : App). list_all is_ready_leaf a.subs) same ∙ h.leaves in
+    let free : has_free_rules (app_of old).top ≡ true = ap (λ (a : App). has_free_rules a.top) same ∙ h.free in
+    let negates = ap (λ (a : App). a.top.subcommand_negates_reqs) same ∙ h.negates in
     let plain = plain_command old ready leaves free in
     let simple = ready_simple old ready leaves in
-    let xs = three (args_of old) workers_rule cycles_rule size_rule (ap (λ (a : App). a.top.rules) same) in
+    let xs = three (args_of old) r s t (ap (λ (a : App). a.top.rules) same ∙ h.rules) in
     let a = xs.0 in
     let b = xs.1 in
     let c = xs.2 in
     let list : args_of old ≡ a ∷ b ∷ c ∷ [] = xs.3 in
     let elem : slice_index_or (args_of old) 2 c ≡ c = ap (λ l. slice_index_or l 2 c) list in
     let lt : 2 < length (args_of old) = subst (λ l. 2 < length l) (sym list) (omega arith) in
-    let rule : rule_of (slice_index_or (args_of old) 2 c) ≡ size_rule = ap rule_of elem ∙ xs.6 in
-    let id : (slice_index_or (args_of old) 2 c).id.now ≡ codes "size" = ap (λ (r : Rule). r.id) rule in
-    let c_id : c.id.now ≡ codes "size" = ap (λ (r : Rule). r.id) xs.6 in
-    let first : bytes_eq a.id.now c.id.now ≡ false = rw (c_id, ap (λ (r : Rule). r.id) xs.4) refl in
-    let second : bytes_eq b.id.now c.id.now ≡ false = rw (c_id, ap (λ (r : Rule). r.id) xs.5) refl in
+    let rule : rule_of (slice_index_or (args_of old) 2 c) ≡ t = ap rule_of elem ∙ xs.6 in
+    let id : (slice_index_or (args_of old) 2 c).id.now ≡ t.id = ap (λ (r : Rule). r.id) rule in
+    let c_id : c.id.now ≡ t.id = ap (λ (r : Rule). r.id) xs.6 in
+    let first : bytes_eq a.id.now c.id.now ≡ false = rw (c_id, ap (λ (r : Rule). r.id) xs.4) h.first in
+    let second : bytes_eq b.id.now c.id.now ≡ false = rw (c_id, ap (λ (r : Rule). r.id) xs.5) h.second in
     let least : 1 ≤ least_values (slice_index_or (args_of old) 2 c) =
-    subst (λ (o : Option ValueRange). 1 ≤ (unwrap_or_range o).start_inclusive) (sym (ap (λ (r : Rule). r.range) rule)) (omega arith) in
+    subst (λ (o : Option ValueRange). 1 ≤ (unwrap_or_range o).start_inclusive) (sym (ap (λ (r : Rule). r.range) rule)) h.least in
     let alone : (j : ℕ) (e : Arg) → j < length (args_of old) → bytes_eq (slice_index_or (args_of old) j e).id.now (slice_index_or (args_of old) 2 c).id.now ≡ true → j ≡ 2 =
     λ j e low hit.
     let small : j < 3 = subst (λ l. j < length l) list low in
@@ -110,7 +126,44 @@ size_given old m p same =
     subst (λ l. bytes_eq (slice_index_or l j e).id.now (slice_index_or (args_of old) 2 c).id.now ≡ true) list hit in
     third_alone a b c first second j e small (subst (λ (x : Arg). bytes_eq (slice_index_or (a ∷ b ∷ c ∷ []) j e).id.now x.id.now ≡ true) elem there) in
     let has = required_has_value old m p plain (simple.globals) negates 2 c lt
-    (ap (λ (r : Rule). r.required) rule) (ap (λ (r : Rule). r.action) rule) (simple.args 2 c lt).delimiter least alone
-    (λ empty. own_name (codes "size") refl (sym id ∙ empty))
-    (λ auto. own_flag (codes "size") refl (elim auto [ inl h ↦ inl (sym id ∙ h) | inr h ↦ inr (sym id ∙ h) ])) in
-    read_some (found_of m) (codes "size") (subst (λ (w : Text). is_some (first_value (found_of m) w) ≡ true) id has)
+    (ap (λ (r : Rule). r.required) rule ∙ h.required) (ap (λ (r : Rule). r.action) rule ∙ h.set) (simple.args 2 c lt).delimiter least alone
+    (λ empty. own_name t.id h.own (sym id ∙ empty))
+    (λ auto. own_flag t.id h.own (elim auto [ inl e ↦ inl (sym id ∙ e) | inr e ↦ inr (sym id ∙ e) ])) in
+    subst (λ (w : Text). is_some (first_value (found_of m) w) ≡ true) id has
+
+asks_size : AsksThird (app_named Make) workers_rule cycles_rule size_rule
+asks_size = record {
+  ready = refl;
+  leaves = refl;
+  free = refl;
+  negates = refl;
+  rules = refl;
+  first = refl;
+  second = refl;
+  required = refl;
+  set = refl;
+  least = omega arith;
+  own = refl;
+}
+
+asks_state : AsksThird (app_named Resume) workers_rule given_circuit_rule given_state_rule
+asks_state = record {
+  ready = refl;
+  leaves = refl;
+  free = refl;
+  negates = refl;
+  rules = refl;
+  first = refl;
+  second = refl;
+  required = refl;
+  set = refl;
+  least = omega arith;
+  own = refl;
+}
+
+-- `make` has its number, and `resume` its state
+pub size_given : (old : Command) (m : ArgMatches) → IsParsedFrom old m → app_of old ≡ app_named Make → is_some (one_text (found_of m) (codes "size")) ≡ true
+size_given old m p same = read_some (found_of m) (codes "size") (third_given old m p (app_named Make) same workers_rule cycles_rule size_rule asks_size)
+
+pub state_given : (old : Command) (m : ArgMatches) → IsParsedFrom old m → app_of old ≡ app_named Resume → is_some (first_value (found_of m) (codes "state")) ≡ true
+state_given old m p same = third_given old m p (app_named Resume) same workers_rule given_circuit_rule given_state_rule asks_state

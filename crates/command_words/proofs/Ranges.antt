@@ -3,7 +3,7 @@ use Rattle.std.proofs.Common.{◌≡◌, ◌∙◌, Bool, true, false, refl, sym
 use Rattle.std.specs.Prelude.{pos}
 use Rattle.clap.specs.declared.builder.value_parser.ValueParser.TheVariants.{Signed}
 use Rattle.command_words.specs.Commands.{app_named}
-use Rattle.command_words.specs.declared.commands.Name.TheVariants.{Run, Cut, Make, Vcd, Refine, Save, Resume}
+use Rattle.command_words.specs.declared.commands.Name.TheVariants.{Run, Cut, Make, Vcd, Refine, Save, Resume, Log}
 use Rattle.command_words.proofs.Numbers.{HasOnly}
 
 never : {A : Type 0} (b : Bool) → b ≡ false → b ≡ true → A
@@ -26,6 +26,9 @@ save_workers = ((λ _. refl), ((λ e. never _ refl e), ((λ e. never _ refl e), 
 
 pub resume_workers : HasOnly (codes "workers") (Signed (pos 1) (pos 64)) (app_named Resume).top.rules
 resume_workers = ((λ _. refl), ((λ e. never _ refl e), ((λ e. never _ refl e), tt)))
+
+pub log_workers : HasOnly (codes "workers") (Signed (pos 1) (pos 64)) (app_named Log).top.rules
+log_workers = ((λ _. refl), ((λ e. never _ refl e), tt))
 
 pub make_workers : HasOnly (codes "workers") (Signed (pos 1) (pos 64)) (app_named Make).top.rules
 make_workers = ((λ _. refl), ((λ e. never _ refl e), ((λ e. never _ refl e), tt)))

@@ -46,7 +46,7 @@ abbrev pub state_rule : Rule
 state_rule = new_rule (codes "state")
 
 abbrev pub given_state_rule : Rule
-given_state_rule = record state_rule { required = true }
+given_state_rule = record state_rule { action = Some Set; required = true }
 
 abbrev pub leaf_rule : Rule
 leaf_rule = record (new_rule (codes "leaf")) { action = Some Append; range = Some (record { start_inclusive = 0; end_inclusive = usize_max }) }
@@ -69,6 +69,7 @@ app_named name.Vcd = command_with (codes "vcd") (workers_rule ∷ given_circuit_
 app_named name.Refine = command_with (codes "refine") (workers_rule ∷ circuit_rule ∷ [])
 app_named name.Save = command_with (codes "save") (workers_rule ∷ given_circuit_rule ∷ state_rule ∷ [])
 app_named name.Resume = command_with (codes "resume") (workers_rule ∷ given_circuit_rule ∷ given_state_rule ∷ [])
+app_named name.Log = command_with (codes "log") (workers_rule ∷ circuit_rule ∷ [])
 
 -- clap's matches of a command line, whose first word is the command; none where clap refuses the other words
 abbrev pub matched : App → List Text → Option (List Row)
@@ -89,6 +90,7 @@ pub data Request : Type 0 where
   Refine : (workers : ℕ) (circuit : Text) → Request
   Save : (workers : ℕ) (circuit : Text) (state : Option Text) → Request
   Resume : (workers : ℕ) (circuit state : Text) → Request
+  Log : (workers : ℕ) (circuit : Text) → Request
 
 -- the same of the code's value
 abbrev pub request_of : Command → Request
@@ -101,6 +103,7 @@ request_of (command.Vcd workers circuit leaves) = Vcd workers circuit.now (map (
 request_of (command.Refine workers circuit) = Refine workers circuit.now
 request_of (command.Save workers circuit state) = Save workers circuit.now (option_map (λ name. name.now) state)
 request_of (command.Resume workers circuit state) = Resume workers circuit.now state.now
+request_of (command.Log workers circuit) = Log workers circuit.now
 
 -- the number that a text has in decimal digits, behind a plus or none; and what stands for an argument that wasn't given
 abbrev pub number_or : ℕ → Option Text → ℕ
@@ -151,6 +154,7 @@ request_by name.Vcd rows = Vcd (workers_in rows) (circuit_in rows) (leaves_in ro
 request_by name.Refine rows = Refine (workers_in rows) (circuit_in rows)
 request_by name.Save rows = Save (workers_in rows) (circuit_in rows) (state_in rows)
 request_by name.Resume rows = Resume (workers_in rows) (circuit_in rows) (given_state_in rows)
+request_by name.Log rows = Log (workers_in rows) (circuit_in rows)
 
 -- the command that a word names
 abbrev pub name_of : Text → Option Name
@@ -164,7 +168,8 @@ name_of word =
     else (if bytes_eq word (codes "refine") then Some name.Refine
     else (if bytes_eq word (codes "save") then Some name.Save
     else (if bytes_eq word (codes "resume") then Some name.Resume
-    else None))))))))
+    else (if bytes_eq word (codes "log") then Some name.Log
+    else None)))))))))
 
 -- the request of a command line of this command
 abbrev pub request_named : Option Name → List Text → Option Request
@@ -185,4 +190,5 @@ InRange (Vcd workers circuit leaves) = (1 ≤ workers) × (workers ≤ 64)
 InRange (Refine workers circuit) = (1 ≤ workers) × (workers ≤ 64)
 InRange (Save workers circuit state) = (1 ≤ workers) × (workers ≤ 64)
 InRange (Resume workers circuit state) = (1 ≤ workers) × (workers ≤ 64)
+InRange (Log workers circuit) = (1 ≤ workers) × (workers ≤ 64)
 InRange _ = ⊤

@@ -77,7 +77,7 @@ pub fn state<'a>(alloc: Global) -> Arg<'a>
 pub fn given_state<'a>(alloc: Global) -> Arg<'a>
     ensures { Follows given_state_rule result }
 {
-    state(alloc).required(true)
+    state(alloc).action(ArgAction::Set).required(true)
 }
 
 /// `LEAF ...`.

@@ -64,4 +64,10 @@ pub enum Command<'a> {
         circuit: &'a str,
         state: &'a str,
     },
+    /// Writes what a circuit prints while it is run under the stimulus behind it in its text.
+    Log {
+        /// From 1 to 64.
+        workers: u32,
+        circuit: &'a str,
+    },
 }

@@ -22,6 +22,7 @@ pub enum Name {
     Refine,
     Save,
     Resume,
+    Log,
 }
 
 /// The command that a word names.
@@ -38,6 +39,7 @@ pub fn name_of(word: &str) -> Option<Name>
         "refine" => Some(Name::Refine),
         "save" => Some(Name::Save),
         "resume" => Some(Name::Resume),
+        "log" => Some(Name::Log),
         _ => None,
     }
 }
@@ -74,6 +76,7 @@ pub fn command<'a>(alloc: Global, name: Name) -> Result<Command<'a>, AllocError>
             .arg(workers(alloc))?
             .arg(given_circuit(alloc))?
             .arg(given_state(alloc)),
+        Name::Log => bare(alloc, "log").arg(workers(alloc))?.arg(circuit(alloc)),
     }
 }
 

@@ -1,7 +1,7 @@
 //! Worked examples of the definition. The functions do nothing.
 
 ghost use Rattle.std.specs.Prelude.{◌≡◌, ℕ, true, false, List, Some, None, [], ◌∷◌, codes};
-ghost use Rattle.command_words.specs.Commands.{command_of, Run, Check, Widths, Cut, Make, Vcd, Refine, Save, Resume};
+ghost use Rattle.command_words.specs.Commands.{command_of, Run, Check, Widths, Cut, Make, Vcd, Refine, Save, Resume, Log};
 
 /// What `run` asks for.
 pub fn runs_are_read()
@@ -39,6 +39,14 @@ pub fn states_are_read()
     ensures resumed_behind { command_of (codes "resume" ∷ codes "c" ∷ codes "--" ∷ codes "-x" ∷ []) ≡ Some (Resume 1 (codes "c") (codes "-x")) }
 {}
 
+/// What `log` asks for.
+pub fn logs_are_read()
+    ensures alone { command_of (codes "log" ∷ []) ≡ Some (Log 1 (codes "-")) }
+    ensures dash { command_of (codes "log" ∷ codes "-" ∷ []) ≡ Some (Log 1 (codes "-")) }
+    ensures workers { command_of (codes "log" ∷ codes "--workers" ∷ codes "7" ∷ codes "c" ∷ []) ≡ Some (Log 7 (codes "c")) }
+    ensures behind { command_of (codes "log" ∷ codes "--" ∷ codes "-x" ∷ []) ≡ Some (Log 1 (codes "-x")) }
+{}
+
 /// What the other commands ask for.
 pub fn others_are_read()
     ensures check { command_of (codes "check" ∷ []) ≡ Some (Check (codes "-")) }
@@ -55,6 +63,7 @@ pub fn names_are_texts()
     ensures both { (circuit stimulus : List ℕ) → command_of (codes "run" ∷ codes "--" ∷ circuit ∷ stimulus ∷ []) ≡ Some (Run 1 false circuit (Some stimulus)) }
     ensures saved { (circuit state : List ℕ) → command_of (codes "save" ∷ codes "--" ∷ circuit ∷ state ∷ []) ≡ Some (Save 1 circuit (Some state)) }
     ensures resumed { (circuit state : List ℕ) → command_of (codes "resume" ∷ codes "--" ∷ circuit ∷ state ∷ []) ≡ Some (Resume 1 circuit state) }
+    ensures logged { (circuit : List ℕ) → command_of (codes "log" ∷ codes "--" ∷ circuit ∷ []) ≡ Some (Log 1 circuit) }
 {}
 
 /// Words that are refused.
@@ -92,6 +101,10 @@ pub fn other_words_are_refused()
     ensures three_resumed { command_of (codes "resume" ∷ codes "c" ∷ codes "s" ∷ codes "t" ∷ []) ≡ None }
     ensures no_resumer { command_of (codes "resume" ∷ codes "--workers" ∷ codes "0" ∷ codes "c" ∷ codes "s" ∷ []) ≡ None }
     ensures resumers_twice { command_of (codes "resume" ∷ codes "--workers" ∷ codes "2" ∷ codes "c" ∷ codes "s" ∷ codes "--workers" ∷ codes "3" ∷ []) ≡ None }
+    ensures two_logged { command_of (codes "log" ∷ codes "a" ∷ codes "b" ∷ []) ≡ None }
+    ensures many_loggers { command_of (codes "log" ∷ codes "--workers" ∷ codes "65" ∷ []) ≡ None }
+    ensures loggers_twice { command_of (codes "log" ∷ codes "--workers" ∷ codes "2" ∷ codes "--workers" ∷ codes "2" ∷ []) ≡ None }
     ensures flag_of_save { command_of (codes "save" ∷ codes "--refine" ∷ codes "c" ∷ []) ≡ None }
     ensures flag_of_resume { command_of (codes "resume" ∷ codes "--refine" ∷ codes "c" ∷ codes "s" ∷ []) ≡ None }
+    ensures flag_of_log { command_of (codes "log" ∷ codes "--refine" ∷ []) ≡ None }
 {}

@@ -2,7 +2,7 @@
 
 ghost use Rattle.std.specs.Prelude.{◌≡◌, map, string_bytes, option_map, IfOk, IfSome};
 ghost use Rattle.clap.specs.Words.{found_of, rows_of};
-ghost use Rattle.command_words.specs.Commands.{AreOf, InRange, app_named, command_of, leaves_in, matched, request_by, request_of};
+ghost use Rattle.command_words.specs.Commands.{AreOf, InRange, app_named, command_of, given_state_in, leaves_in, matched, request_by, request_of};
 
 use crate::command::Command;
 use crate::commands::{Name, command, name_of};
@@ -82,9 +82,21 @@ fn asked<'a>(alloc: Global, name: Name, matches: &ArgMatches<'a>) -> Result<Comm
         Name::Resume => Ok(Command::Resume {
             workers,
             circuit,
-            state: matches.get_str("state").unwrap_or(""),
+            state: resumed_state(matches),
         }),
+        Name::Log => Ok(Command::Log { workers, circuit }),
     }
+}
+
+/// The name of the state that `resume` has, since clap asks for it.
+fn resumed_state<'a>(matches: &ArgMatches<'a>) -> &'a str
+    requires { AreOf Name.Resume matches.now }
+    ensures { result.now ≡ given_state_in (rows_of (found_of matches.now)) }
+{
+    let Some(state) = matches.get_str("state") else {
+        unreachable!();
+    };
+    state
 }
 
 /// The names of leaves, in their order.

@@ -31,6 +31,27 @@ const TRACE: &str = "cycle out\n0 0\n1 0\n2 1\n3 2\n";
 /// The summary of 2,049 cycles of a ring of two registers: two whole epochs and one of a cycle.
 const LONG_SUMMARY: &str = "bytes 18280\n2048 2048\n";
 
+const PRINTING: &str = "FIRRTL version 3.0.0
+circuit M :
+  module M :
+    input clock : Clock
+    input reset : UInt<1>
+    output out : UInt<4>
+    regreset r : UInt<4>, clock, reset, UInt<4>(0)
+    connect r, tail(add(r, UInt<4>(1)), 1)
+    connect out, r
+    printf(clock, UInt<1>(1), \"r=%d %b\\n\", r, r) : p
+    when eq(r, UInt<4>(1)) :
+      stop(clock, UInt<1>(1), 7) : s
+";
+
+const LONG_STIMULUS: &str = "cycles 9
+0 reset 1
+1 reset 0
+";
+
+const LOG: &str = "r=0 0\nr=0 0\nr=1 1\nstopped 2 7\n";
+
 /// A gate that counts how often workers enter it.
 #[derive(Drop)]
 struct Counter {
@@ -107,6 +128,27 @@ fn the_side_that_failed_is_told(rt: HostRuntime) -> Result<(), Fail> {
         assert_eq!(rt; given, status);
         assert_eq!(rt; written.as_slice(), bytes.as_bytes());
     }
+    Ok(())
+}
+
+#[test]
+fn a_log_ends_with_its_stop_or_its_last_cycle(rt: HostRuntime) -> Result<(), Fail> {
+    for workers in ["1", "2", "5"] {
+        let words = ["log", "--workers", workers];
+        let outside = holding(PRINTING, LONG_STIMULUS);
+        let (status, written) = answer(&rt, rt.alloc(), &OpenGate, &words, outside)?;
+        assert_eq!(rt; status, 0);
+        assert_eq!(rt; written.as_slice(), LOG.as_bytes());
+        let outside = holding(CIRCUIT, STIMULUS);
+        let (status, written) = answer(&rt, rt.alloc(), &OpenGate, &words, outside)?;
+        assert_eq!(rt; status, 0);
+        assert_eq!(rt; written.as_slice(), b"ended 4\n".as_slice());
+    }
+    let mut outside = holding(PRINTING, LONG_STIMULUS);
+    outside.write = &[3];
+    let (status, written) = answer(&rt, rt.alloc(), &OpenGate, &["log"], outside)?;
+    assert_eq!(rt; status, 5);
+    assert_eq!(rt; written.as_slice(), b"r=".as_slice());
     Ok(())
 }
 

@@ -37,6 +37,8 @@ use Rattle.width_fit.specs.Fitting.{IsFittedCircuit}
 use Rattle.snapshot_text.specs.declared.fault.StateFault.{StateFault}
 use Rattle.snapshot_text.specs.declared.snapshot.Snapshot.{Snapshot}
 use Rattle.snapshot_text.specs.Faults.{place_of as place_in_state}
+use Rattle.log_laws.specs.Logs.{IsLogOf}
+use Rattle.log_runs.proofs.LogsOnce.{one_log}
 use Rattle.state_texts.specs.Held.{IsFirstStateFault, Begins, from_text}
 use Rattle.state_texts.specs.Texts.{IsResumedText, IsSavedText}
 use Rattle.state_texts.proofs.Sound.{IsSound, well_formed_is_sound}
@@ -48,11 +50,11 @@ use Rattle.sim_engine.specs.declared.fault.CircuitFault.{CircuitFault}
 use Rattle.sim_engine.proofs.Accepting.{fitted_well_formed}
 use Rattle.sim_engine.proofs.Once.{one_fault, no_fault, accepted_once}
 use Rattle.sim_engine.proofs.Solving.{same_at, same_declared, same_modules, flagged}
-use Rattle.sim_top.specs.Commands.{StateText, Told, Too_long, told, joined_limit, Job, Run, Check, Widths, Cut, Refine, Vcd, Save, Resume, job_from, Question, Of_joined, Of_two, Of_state, Of_made, asked_by}
-use Rattle.sim_top.specs.Texts.{IsPart, IsTaken, stimulus_limit}
-use Rattle.sim_top.specs.Answers.{fault_bytes, stimulus_bytes, state_bytes, RefusesStimulus, stimulus_too_long, stimulus_faulty, TakesStimulus, Runs, stimulus_refused, written, RefusesState, state_too_long, state_faulty, TakesState, no_state, told_state, RunsFrom, given_refused, state_refused, begun, JudgesTexts, refused, accepted, listed, divided, refined, ran, watch_unknown, dumped, saved, resumed, Judges, joined_too_long, no_stimulus, circuit_too_long, taken, AnswersTo, of_joined, of_long_circuit, of_two, of_long_joined, of_state, of_made, of_made_refused, Answers, no_command, answered}
-use Rattle.sim_top.proofs.Apart.{accepted_names}
-use Rattle.sim_top.proofs.Splitting.{part_once, run_has_line}
+use Rattle.asked_texts.specs.Commands.{StateText, Told, Too_long, told, joined_limit, Job, Run, Check, Widths, Cut, Refine, Vcd, Save, Resume, Log, job_from, Question, Of_joined, Of_two, Of_state, Of_made, asked_by}
+use Rattle.asked_texts.specs.Texts.{IsPart, stimulus_limit}
+use Rattle.sim_top.specs.Answers.{IsLogText, IsTaken, fault_bytes, stimulus_bytes, state_bytes, RefusesStimulus, stimulus_too_long, stimulus_faulty, TakesStimulus, Runs, stimulus_refused, written, RefusesState, state_too_long, state_faulty, TakesState, no_state, told_state, RunsFrom, given_refused, state_refused, begun, JudgesTexts, refused, accepted, listed, divided, refined, ran, watch_unknown, dumped, saved, resumed, logged, Judges, joined_too_long, no_stimulus, circuit_too_long, taken, AnswersTo, of_joined, of_long_circuit, of_two, of_long_joined, of_state, of_made, of_made_refused, Answers, no_command, answered}
+use Rattle.sim_top.proofs.Apart.{accepted_items, accepted_names}
+use Rattle.asked_texts.proofs.Splitting.{part_once, run_has_line}
 
 pub some_same : {A : Type 0} (x y : A) → Some x ≡ Some y → x ≡ y
 some_same x y e = cc e
@@ -73,7 +75,7 @@ listed_once text first second a o =
     same_listing first.checked.resolved first second a.clocked.driven.fits.types
     (subst (λ (x : Circuit). IsFittedCircuit x second) (sym same.0) o.clocked.driven.fits.types)
 
--- a stimulus has one trace, and one dump of the same words
+-- a stimulus has one trace, one dump of the same words, and one log
 abbrev WritesOnce : (Stimulus → List ℕ → Type 0) → Type 0
 WritesOnce Writes = (stimulus : Stimulus) (bytes other : List ℕ) → Writes stimulus bytes → Writes stimulus other → bytes ≡ other
 
@@ -85,6 +87,11 @@ one_trace text fitted a stimulus bytes other p q =
 
 same_dump : (text : List ℕ) (fitted : Fitted) → IsAccepted text fitted → (names : List (List ℕ)) → WritesOnce (IsVcdText fitted.checked.resolved.names (design_of fitted) names)
 same_dump text fitted a names = one_dump fitted.checked.resolved.names fitted (fitted_well_formed text fitted a.clocked.driven.fits) a.no_loop names
+
+same_log : (text : List ℕ) (fitted : Fitted) → IsAccepted text fitted → WritesOnce (IsLogText fitted)
+same_log text fitted a stimulus bytes other p q =
+    one_log fitted.checked.resolved.names fitted fitted.checked.resolved.prints (fitted_well_formed text fitted a.clocked.driven.fits) a.no_loop
+    (accepted_items text fitted a) (all_inputs (design_of fitted) stimulus) bytes other p q
 
 -- a run
 too_long : (n limit : ℕ) → limit < n → n ≤ limit → ⊥
@@ -168,11 +175,18 @@ same_fault : (f g : CircuitFault) (p q : Place) → f ≡ g → fault_place f �
 same_fault f g p q e is at = ap₂ fault_bytes e (some_same p q (sym is ∙ ap fault_place e ∙ at))
 
 -- what is said of a fitted circuit holds of another one that the text was accepted as
+carried_over : (P : Circuit → Design → Type 0) (text : List ℕ) (first second : Fitted) → IsAccepted text first → IsAccepted text second
+    → P first.checked.resolved (design_of first) → P second.checked.resolved (design_of second)
+carried_over P text first second a o p =
+    let same = accepted_once text first second a o in
+    subst (λ (x : Design). P second.checked.resolved x) same.1 (subst (λ (c : Circuit). P c (design_of first)) same.0 p)
+
 carried : (P : Texts → Design → Type 0) (text : List ℕ) (first second : Fitted) → IsAccepted text first → IsAccepted text second
     → P first.checked.resolved.names (design_of first) → P second.checked.resolved.names (design_of second)
-carried P text first second a o p =
-    let same = accepted_once text first second a o in
-    subst (λ (x : Design). P second.checked.resolved.names x) same.1 (subst (λ (c : Circuit). P c.names (design_of first)) same.0 p)
+carried P = carried_over (λ circuit. P circuit.names)
+
+abbrev Logs : Circuit → Design → Stimulus → List ℕ → Type 0
+Logs circuit design given = IsLogOf circuit.names design circuit.prints (all_inputs design given)
 
 abbrev Saves : Texts → Design → WritesFrom
 Saves texts design state given = IsSavedText texts design given state
@@ -248,6 +262,11 @@ texts_once (Resume begin) text stimulus _ _ _ _ (resumed _ _ _ fitted _ _ a r) (
 texts_once (Resume begin) text stimulus s t b d (resumed _ _ _ fitted _ _ a r) (resumed _ _ _ other _ _ o q) =
     let here = carried (λ texts design. RunsFrom texts design (Resumes texts design) (Some begin) stimulus t d) text other fitted o a q in
     begun_once fitted.checked.resolved.names (design_of fitted) (Resumes fitted.checked.resolved.names (design_of fitted)) (resumes_once text fitted a) (Some begin) stimulus s t b d r here
+texts_once Log text stimulus _ _ _ _ (refused _ _ _ f p is at) (logged _ _ fitted _ _ a r) = absurd (no_fault text f fitted is a)
+texts_once Log text stimulus _ _ _ _ (logged _ _ fitted _ _ a r) (refused _ _ _ f p is at) = absurd (no_fault text f fitted is a)
+texts_once Log text stimulus s t b d (logged _ _ fitted _ _ a r) (logged _ _ other _ _ o q) =
+    let here = carried_over (λ circuit design. Runs circuit.names design (Logs circuit design) stimulus t d) text other fitted o a q in
+    runs_once fitted.checked.resolved.names (design_of fitted) (IsLogText fitted) (same_log text fitted a) stimulus s t b d r here
 
 -- what is answered to a text
 other_part : (job : Job) (joined circuit stimulus : List ℕ) → IsPart job joined circuit stimulus → circuit_limit < length circuit

@@ -1,4 +1,4 @@
--- What an accepted circuit keeps stands apart, and its names are names of a text.
+-- What an accepted circuit keeps stands apart, its names are names of a text, and its items are sound.
 use Rattle.std.proofs.Common.{ℕ, List, refl}
 use Rattle.std.specs.List.{All}
 use Rattle.fir_layout.specs.Layout.{tokens_in}
@@ -11,6 +11,8 @@ use Rattle.name_laws.proofs.Spelled.{spelled_words, fields_are_words}
 use Rattle.name_laws.proofs.Items.{circuit_names}
 use Rattle.state_texts.specs.Apart.{KeepsApart}
 use Rattle.state_texts.proofs.Accepted.{keeps_apart}
+use Rattle.item_leaves.specs.Finding.{HasItems}
+use Rattle.sim_top.proofs.Sound.{spelled_items}
 use Rattle.sim_engine.specs.Stages.{IsAccepted}
 use Rattle.sim_engine.proofs.Accepting.{accepted_circuit, fitted_well_formed}
 
@@ -26,3 +28,9 @@ accepted_names text fitted a =
     let is = parsed.spelled in
     circuit_names fitted.checked.resolved is.lines is.names is.is
     (spelled_words is.major text refl is.spelled.spelled (tokens_are_in text (tokens_in parsed.list) parsed.laid.lexed.tokens_are) fields_are_words).1
+
+pub accepted_items : (text : List ℕ) (fitted : Fitted) → IsAccepted text fitted → HasItems fitted.checked.resolved.names (design_of fitted) fitted.checked.resolved.prints
+accepted_items text fitted a =
+    let fits = a.clocked.driven.fits in
+    let parsed = fits.widthed.sized.typed.named.parsed in
+    spelled_items text parsed.list fitted fits.types.widths parsed.spelled (fitted_well_formed text fitted fits) fits.types.fitted_is

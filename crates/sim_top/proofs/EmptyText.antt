@@ -15,8 +15,8 @@ use Rattle.fir_grammar.proofs.Fronts.{Front-taken, Front-entered}
 use Rattle.sim_engine.specs.Faults.{fault_place}
 use Rattle.sim_engine.specs.Stages.{IsLaid, IsFirstFault, of_grammar}
 use Rattle.sim_engine.specs.declared.fault.CircuitFault.TheVariants.{Parse}
-use Rattle.sim_top.specs.Commands.{Check}
-use Rattle.sim_top.specs.Texts.{HasNone, all_of_it}
+use Rattle.asked_texts.specs.Commands.{Check}
+use Rattle.asked_texts.specs.Texts.{HasNone, all_of_it}
 use Rattle.sim_top.specs.Answers.{Judges, taken, refused, fault_bytes}
 
 laid_out : IsLaidOut [] (End 0 ∷ [])

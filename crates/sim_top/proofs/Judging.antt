@@ -32,16 +32,16 @@ use Rattle.sim_engine.specs.Faults.{fault_place}
 use Rattle.sim_engine.specs.declared.compile.Built.{Built}
 use Rattle.sim_engine.specs.declared.fault.CircuitFault.{CircuitFault}
 use Rattle.sim_engine.specs.declared.fault.CircuitFault.TheVariants.{NoMemory}
-use Rattle.sim_top.specs.declared.words.StateText.{StateText as GivenText}
-use Rattle.sim_top.specs.declared.words.Command.{Command}
-use Rattle.sim_top.specs.declared.words.Command.TheVariants as asked
-use Rattle.sim_top.specs.declared.texts.WholeFault.TheVariants.{TooLong, NoStimulus, WatchUnknown}
+use Rattle.asked_texts.specs.declared.words.StateText.{StateText as GivenText}
+use Rattle.asked_texts.specs.declared.words.Command.{Command}
+use Rattle.asked_texts.specs.declared.words.Command.TheVariants as asked
+use Rattle.asked_texts.specs.declared.texts.WholeFault.TheVariants.{TooLong, NoStimulus, WatchUnknown}
 use Rattle.sim_top.specs.declared.judge.Reply.{Reply}
 use Rattle.sim_top.specs.declared.judge.Decision.{Decision}
 use Rattle.sim_top.specs.declared.judge.Decision.TheVariants as decision
-use Rattle.sim_top.specs.Commands.{StateText, Told, Too_long, joined_limit, Job, Run, Check, Widths, Cut, Refine, Vcd, Save, Resume, text_given, job}
-use Rattle.sim_top.specs.Texts.{HasNone, IsPart, reads_all, stimulus_limit}
-use Rattle.sim_top.specs.Answers.{fault_bytes, whole_bytes, stimulus_bytes, whole_stimulus_bytes, RefusesStimulus, stimulus_too_long, stimulus_faulty, TakesStimulus, stimulus_refused, written, whole_state_bytes, state_bytes, RefusesState, state_too_long, state_faulty, TakesState, RunsFrom, given_refused, state_refused, begun, JudgesTexts, refused, accepted, listed, divided, refined, ran, watch_unknown, dumped, saved, resumed, Judges, no_stimulus, circuit_too_long, taken}
+use Rattle.asked_texts.specs.Commands.{StateText, Told, Too_long, joined_limit, Job, Run, Check, Widths, Cut, Refine, Vcd, Save, Resume, Log, text_given, job}
+use Rattle.asked_texts.specs.Texts.{HasNone, IsPart, reads_all, stimulus_limit}
+use Rattle.sim_top.specs.Answers.{fault_bytes, whole_bytes, stimulus_bytes, whole_stimulus_bytes, RefusesStimulus, stimulus_too_long, stimulus_faulty, TakesStimulus, stimulus_refused, written, whole_state_bytes, state_bytes, RefusesState, state_too_long, state_faulty, TakesState, RunsFrom, given_refused, state_refused, begun, JudgesTexts, refused, accepted, listed, divided, refined, ran, watch_unknown, dumped, saved, resumed, logged, Judges, no_stimulus, circuit_too_long, taken}
 use Rattle.sim_top.specs.Endings.{Gives, IsFor, IsStart}
 
 -- what a decision has, it has of all that this is true of
@@ -52,6 +52,7 @@ gives_more P Q more (decision.Dump built settings numbers) g =
     record { names = g.names; numbered = g.numbered; dumped = λ bytes t. more 0 bytes (g.dumped bytes t) }
 gives_more P Q more (decision.Save built settings start) g = record { begin = g.begin; begins = g.begins; written = λ bytes t. more 0 bytes (g.written bytes t) }
 gives_more P Q more (decision.Resume built settings watched start) g = record { begin = g.begin; begins = g.begins; written = λ bytes t. more 0 bytes (g.written bytes t) }
+gives_more P Q more (decision.Log built settings) g = λ bytes t. more 0 bytes (g bytes t)
 
 -- the parts of a joined text, the circuit's within its limit
 pub gives_part : (k : Job) (joined circuit stimulus : List ℕ) (d : Decision) → length joined ≤ joined_limit → IsPart k joined circuit stimulus
@@ -299,3 +300,15 @@ save_no_run begin run = cc
 
 pub resume_no_run : (begin : StateText) → Resume begin ≢ Run
 resume_no_run begin run = cc
+
+-- a log of what was built
+pub log_refused : (text stimulus : List ℕ) (built : Built) (status : ℕ) (bytes : List ℕ) → IsBuilt text built → status ≡ 3 → Refuses built stimulus bytes
+    → JudgesTexts Log text stimulus status bytes
+log_refused text stimulus built status bytes b three r = rw three (logged text stimulus built.fitted 3 bytes b.accepted (stimulus_refused bytes r))
+
+pub log_taken : (text stimulus : List ℕ) (built : Built) (settings : Stimulus) → IsBuilt text built → Takes built stimulus settings
+    → Gives (JudgesTexts Log text stimulus) (decision.Log built settings)
+log_taken text stimulus built settings b takes = λ bytes t. logged text stimulus built.fitted 0 bytes b.accepted (written settings bytes takes t)
+
+pub log_no_run : Log ≢ Run
+log_no_run run = cc

@@ -1,9 +1,8 @@
-pub mod Searching
-pub mod Splitting
 pub mod AnswersOnce
-pub mod Asking
 pub mod Judging
 pub mod Naming
 pub mod Replying
+pub mod Carrying
 pub mod EmptyText
+pub mod Sound
 pub mod Apart

@@ -18,15 +18,16 @@ use Rattle.shelf_io.specs.Outside.{Appends, Rose}
 use Rattle.circuit_make.specs.Rings.{ring_text}
 use Rattle.crew_run.specs.Summaries.{IsSummary}
 use Rattle.sim_engine.specs.Stages.{circuit_limit}
-use Rattle.sim_top.specs.declared.texts.WholeFault.{WholeFault}
-use Rattle.sim_top.specs.declared.texts.WholeFault.TheVariants.{TooLong, NoStimulus, WatchUnknown}
+use Rattle.asked_texts.specs.declared.texts.WholeFault.{WholeFault}
+use Rattle.asked_texts.specs.declared.texts.WholeFault.TheVariants.{TooLong, NoStimulus, WatchUnknown}
 use Rattle.sim_top.specs.declared.judge.Reply.{Reply}
 use Rattle.sim_top.specs.declared.judge.Decision.{Decision}
 use Rattle.sim_top.specs.declared.judge.Decision.TheVariants as decision
-use Rattle.sim_top.specs.declared.words.Keeping.{Keeping}
-use Rattle.sim_top.specs.Commands.{StateText, Told as Told_text, Too_long, told, joined_limit, state_limit, Job, Run, Check, Widths, Cut, Refine, Vcd, Save, Resume, job_from, Question, Of_joined, Of_two, Of_state, Of_made, asked_by, NeedsFor, the_joined, the_circuit, the_stimulus, the_held, the_state, Needs}
-use Rattle.sim_top.specs.Answers.{whole_bytes, RefusesStimulus, stimulus_too_long, stimulus_faulty, Runs, stimulus_refused, written, RefusesState, state_too_long, state_faulty, RunsFrom, given_refused, state_refused, begun, JudgesTexts, refused, accepted, listed, divided, refined, ran, watch_unknown, dumped, saved, resumed, Judges, joined_too_long, no_stimulus, circuit_too_long, taken, AnswersTo, of_joined, of_long_circuit, of_two, of_long_joined, of_state as of_a_state, of_made, of_made_refused, Answers, no_command, answered}
-use Rattle.sim_top.specs.Endings.{Ends, IsSaid, IsRun, IsWritten, IsFaultLine, of_circuit, of_whole, of_stimulus, of_whole_stimulus, of_state, of_whole_state, IsReply, Gives, IsFor, IsReady, IsRunnable, IsDumpable, IsSavable, status_of}
+use Rattle.asked_texts.specs.declared.words.Keeping.{Keeping}
+use Rattle.asked_texts.specs.Commands.{StateText, Told as Told_text, Too_long, told, joined_limit, state_limit, Job, Run, Check, Widths, Cut, Refine, Vcd, Save, Resume, Log, job_from, Question, Of_joined, Of_two, Of_state, Of_made, asked_by}
+use Rattle.sim_top.specs.Needing.{NeedsFor, the_joined, the_circuit, the_stimulus, the_held, the_state, Needs}
+use Rattle.sim_top.specs.Answers.{whole_bytes, RefusesStimulus, stimulus_too_long, stimulus_faulty, Runs, stimulus_refused, written, RefusesState, state_too_long, state_faulty, RunsFrom, given_refused, state_refused, begun, JudgesTexts, refused, accepted, listed, divided, refined, ran, watch_unknown, dumped, saved, resumed, logged, Judges, joined_too_long, no_stimulus, circuit_too_long, taken, AnswersTo, of_joined, of_long_circuit, of_two, of_long_joined, of_state as of_a_state, of_made, of_made_refused, Answers, no_command, answered}
+use Rattle.sim_top.specs.Endings.{Ends, IsSaid, IsRun, IsWritten, IsFaultLine, of_circuit, of_whole, of_stimulus, of_whole_stimulus, of_state, of_whole_state, IsReply, Gives, IsFor, IsReady, IsRunnable, IsDumpable, IsSavable, IsLoggable, status_of}
 use Rattle.sim_top.proofs.AnswersOnce.{some_same, no_reading, answers_once}
 use Rattle.sim_top.proofs.Judging.{gives_more}
 
@@ -63,6 +64,7 @@ texts_told (Vcd names) text stimulus _ _ (watch_unknown _ _ _ fitted a none) = i
 texts_told (Vcd names) text stimulus s b (dumped _ _ _ fitted _ _ a known r) = ran_told fitted.checked.resolved.names _ _ stimulus s b r
 texts_told (Save begin) text stimulus s b (saved _ _ _ fitted _ _ a r) = begun_told fitted.checked.resolved.names _ _ begin stimulus s b r
 texts_told (Resume begin) text stimulus s b (resumed _ _ _ fitted _ _ a r) = begun_told fitted.checked.resolved.names _ _ (Some begin) stimulus s b r
+texts_told Log text stimulus s b (logged _ _ fitted _ _ a r) = ran_told fitted.checked.resolved.names _ _ stimulus s b r
 
 judged_told : (job : Job) (joined : List ℕ) (s : ℕ) (b : List ℕ) → Judges job joined s b → Told s b
 judged_told job joined _ _ (joined_too_long _ _ l) = inr (of_whole TooLong first_place)
@@ -98,6 +100,7 @@ ready_decision job joined (decision.Run built settings watched) s run = run
 ready_decision job joined (decision.Dump built settings numbers) s run = run.1
 ready_decision job joined (decision.Save built settings start) s run = run.1
 ready_decision job joined (decision.Resume built settings watched start) s run = run.1
+ready_decision job joined (decision.Log built settings) s run = run.1
 
 pub no_usage : (job : Job) (joined : List ℕ) (d : Decision) → Gives (Judges job joined) d → status_of d ≡ 1 → ⊥
 no_usage job joined (decision.Say reply) s one = told_usage _ _ (judged_told job joined _ _ s) one
@@ -105,6 +108,7 @@ no_usage job joined (decision.Run built settings watched) s one = cc
 no_usage job joined (decision.Dump built settings numbers) s one = cc
 no_usage job joined (decision.Save built settings start) s one = cc
 no_usage job joined (decision.Resume built settings watched start) s one = cc
+no_usage job joined (decision.Log built settings) s one = cc
 
 texts_ready : (text stimulus : List ℕ) (s : ℕ) (b : List ℕ) → JudgesTexts Run text stimulus s b → IsReply s b
 texts_ready text stimulus s b j = ⊎_elim (λ zero. inl zero) (λ line. inr (inr line)) (texts_told Run text stimulus s b j)
@@ -115,6 +119,7 @@ ready_texts text stimulus (decision.Run built settings watched) s run = run
 ready_texts text stimulus (decision.Dump built settings numbers) s run = run.1
 ready_texts text stimulus (decision.Save built settings start) s run = run.1
 ready_texts text stimulus (decision.Resume built settings watched start) s run = run.1
+ready_texts text stimulus (decision.Log built settings) s run = run.1
 
 pub no_usage_texts : (text stimulus : List ℕ) (d : Decision) → Gives (JudgesTexts Run text stimulus) d → status_of d ≡ 1 → ⊥
 no_usage_texts text stimulus (decision.Say reply) s one = told_usage _ _ (texts_told Run text stimulus _ _ s) one
@@ -122,6 +127,7 @@ no_usage_texts text stimulus (decision.Run built settings watched) s one = cc
 no_usage_texts text stimulus (decision.Dump built settings numbers) s one = cc
 no_usage_texts text stimulus (decision.Save built settings start) s one = cc
 no_usage_texts text stimulus (decision.Resume built settings watched start) s one = cc
+no_usage_texts text stimulus (decision.Log built settings) s one = cc
 
 pub usage_ready : (b : List ℕ) → b ≡ codes "usage\n" → IsReply 1 b
 usage_ready b e = inr (inl (refl, e))
@@ -406,6 +412,9 @@ dump_planned built stimulus numbers dumpable = built_planned dumpable.text built
 pub save_planned : (built : Built) (stimulus : Stimulus) (start : Snapshot) → IsSavable built stimulus start → IsPlanned built.ordered built.ports stimulus
 save_planned built stimulus start savable = built_planned savable.text built stimulus savable.is_built savable.formed
 
+pub log_planned : (built : Built) (stimulus : Stimulus) → IsLoggable built stimulus → IsPlanned built.ordered built.ports stimulus
+log_planned built stimulus loggable = built_planned loggable.text built stimulus loggable.is_built loggable.formed
+
 -- how the text of a state was written
 pub written_said : (IsText : List ℕ → Type 0) (result : ℕ) (bytes : List ℕ) (old new : Option (List ℕ)) → IsText bytes → IsSaid result 0 bytes old new → IsWritten IsText result old new
 written_said IsText result bytes old new is said = record {
@@ -417,12 +426,8 @@ written_said IsText result bytes old new is said = record {
 pub written_none : (IsText : List ℕ → Type 0) (old : Option (List ℕ)) → IsWritten IsText 6 old old
 written_none IsText old = record { all = λ zero. absurd (omega (arith, zero)); part = λ five. absurd (omega (arith, five)); nothing = λ six. nothing_written old }
 
-pub writing_complete : (result : ℕ) (Failed : Type 0) → IsWritingStatus result → (result ≡ 5 → Failed) → (Failed → ⊥) → (result ≤ 3) ⊎ (result ≡ 6)
-writing_complete result Failed status rose kept =
-    ⊎_elim (λ z. inl (omega (arith, z))) (λ more. ⊎_elim (λ five. absurd (kept (rose five))) (λ six. inr six) more) status
-
-pub said_status : (result : ℕ) (bytes : List ℕ) (old new : Option (List ℕ)) → IsSaid result 0 bytes old new → IsWritingStatus result
-said_status result bytes old new said = ⊎_elim (λ five. inr (inl five)) (λ n. inl (said.all n).0) (cases_eq result 5)
+pub said_status : (status result : ℕ) (bytes : List ℕ) (old new : Option (List ℕ)) → IsSaid result status bytes old new → (result ≡ status) ⊎ (result ≡ 5) ⊎ (result ≡ 6)
+said_status status result bytes old new said = ⊎_elim (λ five. inr (inl five)) (λ n. inl (said.all n).0) (cases_eq result 5)
 
 -- where it failed, its count rose
 pub said_rose : (status result : ℕ) (Failed : Type 0) → status ≤ 3 → (result ≢ status → Failed) → result ≡ 5 → Failed

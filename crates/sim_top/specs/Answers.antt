@@ -13,7 +13,7 @@ use Rattle.stimulus.specs.declared.fault.StimFault.{StimFault}
 use Rattle.stimulus.specs.Faults.{IsFault, place_of, rank_of, kind_of}
 use Rattle.stimulus.specs.Stimuli.{IsStimulus}
 use Rattle.circuit_run.specs.Ports.{ArePortsOf}
-use Rattle.circuit_run.specs.Traces.{IsTraceText}
+use Rattle.circuit_run.specs.Traces.{all_inputs, IsTraceText}
 use Rattle.trace_print.specs.Listing.{listing_of}
 use Rattle.crew_run.specs.Summaries.{IsSummary}
 use Rattle.circuit_make.specs.Rings.{ring_text}
@@ -25,14 +25,15 @@ use Rattle.snapshot_text.specs.declared.fault.StateFault.{StateFault}
 use Rattle.snapshot_text.specs.Faults.{place_of as place_in_state, kind_of as kind_in_state}
 use Rattle.state_texts.specs.Held.{IsFirstStateFault}
 use Rattle.state_texts.specs.Texts.{IsResumedText, IsSavedText}
+use Rattle.log_laws.specs.Logs.{IsLogOf}
 use Rattle.sim_engine.specs.Stages.{circuit_limit, IsAccepted, IsFirstFault}
 use Rattle.sim_engine.specs.Faults.{kind_name, fault_place}
 use Rattle.sim_engine.specs.declared.fault.CircuitFault.{CircuitFault}
-use Rattle.sim_top.specs.declared.texts.WholeFault.{WholeFault}
-use Rattle.sim_top.specs.declared.texts.WholeFault.TheVariants.{TooLong, NoStimulus, WatchUnknown}
-use Rattle.sim_top.specs.Commands.{StateText, Told, Too_long, told, joined_limit, Job, Run, Check, Widths, Cut, Refine, Vcd, Save, Resume, job_from, Question, Of_joined, Of_two, Of_state, Of_made, asked_by}
-use Rattle.sim_top.specs.declared.words.Keeping.{Keeping}
-use Rattle.sim_top.specs.Texts.{stimulus_limit, whole_name, reads_all, HasNone, IsPart, IsTaken}
+use Rattle.asked_texts.specs.declared.texts.WholeFault.{WholeFault}
+use Rattle.asked_texts.specs.declared.texts.WholeFault.TheVariants.{TooLong, NoStimulus, WatchUnknown}
+use Rattle.asked_texts.specs.Commands.{StateText, Told, Too_long, told, joined_limit, Job, Run, Check, Widths, Cut, Refine, Vcd, Save, Resume, Log, job_from, Question, Of_joined, Of_two, Of_state, Of_made, asked_by}
+use Rattle.asked_texts.specs.declared.words.Keeping.{Keeping}
+use Rattle.asked_texts.specs.Texts.{stimulus_limit, whole_name, reads_all, HasNone, IsPart}
 
 -- The lines of faults: of a fault of the circuit, of one of its text as a whole or of the words, of a fault of the stimulus, of one of its text as a
 -- whole, and the same of a state.
@@ -93,9 +94,15 @@ pub data RunsFrom (texts : Texts) (design : Design) (Writes : Option (List ℕ) 
   begun : (stimulus : Stimulus) (state : Option (List ℕ)) (bytes : List ℕ) → TakesStimulus texts design text stimulus → TakesState begin state → Writes state stimulus bytes
       → RunsFrom texts design Writes begin text 0 bytes
 
+-- The log of a circuit under a stimulus: what its items print under what main's inputs are given.
+abbrev pub IsLogText : Fitted → Stimulus → List ℕ → Type 0
+IsLogText fitted stimulus =
+    IsLogOf fitted.checked.resolved.names (design_of fitted) fitted.checked.resolved.prints (all_inputs (design_of fitted) stimulus)
+
 -- What is answered where the circuit's text was taken: its first fault; or for `check` that there is none, for `widths` the listing, for `cut` the
 -- circuit's cut, for `refine` the refined one, for `run` what a run of the circuit answers, for `vcd` that a word names no leaf, or what a
--- run answers that is dumped; for `save` what a run answers whose state is written, and for `resume` what one answers that goes on from a state.
+-- run answers that is dumped; for `save` what a run answers whose state is written, for `resume` what one answers that goes on from a state, and for
+-- `log` what one answers whose items are printed.
 pub data JudgesTexts : Job → List ℕ → List ℕ → ℕ → List ℕ → Type 0 where
   refused : (job : Job) (text stimulus : List ℕ) (fault : CircuitFault) (there' : Place) → IsFirstFault text fault → fault_place fault ≡ Some there'
       → JudgesTexts job text stimulus 2 (fault_bytes fault there')
@@ -120,6 +127,15 @@ pub data JudgesTexts : Job → List ℕ → List ℕ → ℕ → List ℕ → Ty
   resumed : (begin : StateText) (text stimulus : List ℕ) (fitted : Fitted) (status : ℕ) (bytes : List ℕ) → IsAccepted text fitted
       → RunsFrom fitted.checked.resolved.names (design_of fitted) (λ state given. IsResumedText fitted.checked.resolved.names (design_of fitted) given state) (Some begin) stimulus status bytes
       → JudgesTexts (Resume begin) text stimulus status bytes
+  logged : (text stimulus : List ℕ) (fitted : Fitted) (status : ℕ) (bytes : List ℕ) → IsAccepted text fitted
+      → Runs fitted.checked.resolved.names (design_of fitted) (IsLogText fitted) stimulus status bytes
+      → JudgesTexts Log text stimulus status bytes
+
+-- the circuit's text was taken: all is within its limit
+pub record IsTaken (job : Job) (joined circuit stimulus : List ℕ) : Type 0 where
+  pub within : length joined ≤ joined_limit
+  pub part : IsPart job joined circuit stimulus
+  pub short : length circuit ≤ circuit_limit
 
 -- What is answered to a joined text. Of the faults of the text as a whole the first in this order counts.
 pub data Judges : Job → List ℕ → ℕ → List ℕ → Type 0 where

@@ -21,11 +21,11 @@ use Rattle.circuit_dump.specs.VcdTexts.{IsVcdText}
 use Rattle.sim_engine.specs.Building.{IsBuilt}
 use Rattle.sim_engine.specs.declared.compile.Built.{Built}
 use Rattle.sim_engine.specs.declared.fault.CircuitFault.{CircuitFault}
-use Rattle.sim_top.specs.declared.texts.WholeFault.{WholeFault}
+use Rattle.asked_texts.specs.declared.texts.WholeFault.{WholeFault}
 use Rattle.sim_top.specs.declared.judge.Decision.{Decision}
 use Rattle.sim_top.specs.declared.judge.Decision.TheVariants as decision
-use Rattle.sim_top.specs.Commands.{Job, Run}
-use Rattle.sim_top.specs.Answers.{Answers, fault_bytes, whole_bytes, stimulus_bytes, whole_stimulus_bytes, state_bytes, whole_state_bytes}
+use Rattle.asked_texts.specs.Commands.{Job, Run}
+use Rattle.sim_top.specs.Answers.{Answers, IsLogText, fault_bytes, whole_bytes, stimulus_bytes, whole_stimulus_bytes, state_bytes, whole_state_bytes}
 
 -- Where the shelf tells its texts and the sink its bytes: `before` stood there, and now stands `after`.
 -- answered: the status and the bytes are the definition's, and the definition has no other.
@@ -47,7 +47,7 @@ pub record IsSaid (result status : ℕ) (bytes : List ℕ) (old new : Option (Li
   pub all : result ≢ 5 → (result ≡ status) × Appends old new bytes
   pub part : result ≡ 5 → (n : ℕ) × Appends old new (take n bytes)
 
--- A trace or a dump was written: all of it at 0, and a prefix where the sink failed, at 5, or memory was wanted, at 6.
+-- A trace, a dump or a log was written: all of it at 0, and a prefix where the sink failed, at 5, or memory was wanted, at 6.
 pub record IsRun (result : ℕ) (bytes : List ℕ) (old new : Option (List ℕ)) : Type 0 where
   pub status : (result ≡ 0) ⊎ (result ≡ 5) ⊎ (result ≡ 6)
   pub all : result ≡ 0 → Appends old new bytes
@@ -85,13 +85,14 @@ pub record GivesFrom (Writes : Option (List ℕ) → List ℕ → Type 0) (Prope
   pub begins : IsStartOf built.ordered.net begin start
   pub written : (bytes : List ℕ) → Writes begin bytes → Property 0 bytes
 
--- A decision has a property of answers: its reply has it, or the trace, the dump or the state's text has it, at status 0.
+-- A decision has a property of answers: its reply has it, or the trace, the dump, the state's text or the log has it, at status 0.
 abbrev pub Gives : (ℕ → List ℕ → Type 0) → Decision → Type 0
 Gives Property (decision.Say reply) = Property reply.status reply.bytes.items
 Gives Property (decision.Run built stimulus watched) = (bytes : List ℕ) → IsTraceText built.fitted.checked.resolved.names (design_of built.fitted) stimulus bytes → Property 0 bytes
 Gives Property (decision.Dump built stimulus numbers) = GivesDump Property built stimulus numbers
 Gives Property (decision.Save built stimulus start) = GivesFrom (λ begin. IsSavedText built.fitted.checked.resolved.names (design_of built.fitted) stimulus begin) Property built start
 Gives Property (decision.Resume built stimulus watched start) = GivesFrom (λ begin. IsResumedText built.fitted.checked.resolved.names (design_of built.fitted) stimulus begin) Property built start
+Gives Property (decision.Log built stimulus) = (bytes : List ℕ) → IsLogText built.fitted stimulus bytes → Property 0 bytes
 
 -- What was built can be run under the stimulus, by the watched leaves of its ports.
 pub record IsRunnable (built : Built) (stimulus : Stimulus) (watched : List ℕ) : Type 0 where
@@ -126,13 +127,20 @@ pub record IsSavable (built : Built) (stimulus : Stimulus) (start : Snapshot) : 
   pub formed : IsFormed built.ports stimulus
   pub is_start : IsStart built start
 
--- What a decision for a job is: a run that can be run, or a reply. Of a run no trace is said, none is dumped, and none goes on from a state.
+-- What was built can be run under the stimulus with its items printed.
+pub record IsLoggable (built : Built) (stimulus : Stimulus) : Type 0 where
+  pub text : List ℕ
+  pub is_built : IsBuilt text built
+  pub formed : IsFormed built.ports stimulus
+
+-- What a decision for a job is: a run that can be run, or a reply. Of a run no trace is said, none is dumped or logged, and none goes on from a state.
 abbrev pub IsFor : Job → Decision → Type 0
 IsFor job (decision.Say reply) = job ≡ Run → reply.status ≢ 0
 IsFor job (decision.Run built stimulus watched) = IsRunnable built stimulus watched
 IsFor job (decision.Dump built stimulus numbers) = (job ≢ Run) × IsDumpable built stimulus numbers
 IsFor job (decision.Save built stimulus start) = (job ≢ Run) × IsSavable built stimulus start
 IsFor job (decision.Resume built stimulus watched start) = (job ≢ Run) × IsResumable built stimulus watched start
+IsFor job (decision.Log built stimulus) = (job ≢ Run) × IsLoggable built stimulus
 
 -- A decision can be carried out: a reply is one, and a run can be run.
 abbrev pub IsReady : Decision → Type 0
@@ -141,6 +149,7 @@ IsReady (decision.Run built stimulus watched) = IsRunnable built stimulus watche
 IsReady (decision.Dump built stimulus numbers) = IsDumpable built stimulus numbers
 IsReady (decision.Save built stimulus start) = IsSavable built stimulus start
 IsReady (decision.Resume built stimulus watched start) = IsResumable built stimulus watched start
+IsReady (decision.Log built stimulus) = IsLoggable built stimulus
 
 -- the status, where nothing fails
 abbrev pub status_of : Decision → ℕ
@@ -149,3 +158,21 @@ status_of (decision.Run built stimulus watched) = 0
 status_of (decision.Dump built stimulus numbers) = 0
 status_of (decision.Save built stimulus start) = 0
 status_of (decision.Resume built stimulus watched start) = 0
+status_of (decision.Log built stimulus) = 0
+
+-- A text of which this holds was written, or a prefix of it.
+abbrev pub HasRun : (List ℕ → Type 0) → ℕ → Option (List ℕ) → Option (List ℕ) → Type 0
+HasRun IsText result old new = (bytes : List ℕ) × IsText bytes × IsRun result bytes old new
+
+-- What was decided was carried out: the reply was written, or the trace, the dump, the state's text or the log was.
+abbrev pub IsCarriedOut : Decision → ℕ → Option (List ℕ) → Option (List ℕ) → Type 0
+IsCarriedOut (decision.Say reply) result old new = IsSaid result reply.status reply.bytes.items old new
+IsCarriedOut (decision.Run built stimulus watched) result old new =
+    HasRun (IsTraceText built.fitted.checked.resolved.names (design_of built.fitted) stimulus) result old new
+IsCarriedOut (decision.Dump built stimulus numbers) result old new = (names : List (List ℕ)) → AreNumbersOf built.ordered.net names numbers
+    → HasRun (IsVcdText built.fitted.checked.resolved.names (design_of built.fitted) names stimulus) result old new
+IsCarriedOut (decision.Save built stimulus start) result old new = (begin : Option (List ℕ)) → IsStartOf built.ordered.net begin start
+    → IsWritten (IsSavedText built.fitted.checked.resolved.names (design_of built.fitted) stimulus begin) result old new
+IsCarriedOut (decision.Resume built stimulus watched start) result old new = (begin : Option (List ℕ)) → IsStartOf built.ordered.net begin start
+    → HasRun (IsResumedText built.fitted.checked.resolved.names (design_of built.fitted) stimulus begin) result old new
+IsCarriedOut (decision.Log built stimulus) result old new = HasRun (IsLogText built.fitted stimulus) result old new

@@ -12,16 +12,15 @@ ghost use Rattle.stimulus.specs.Stimuli.{IsFormed};
 ghost use Rattle.fir_meaning.specs.Components.{design_of};
 ghost use Rattle.cut_listing.specs.CircuitCuts.{IsCutText};
 ghost use Rattle.refine_listing.specs.RefinedTexts.{IsRefinedText};
-ghost use Rattle.sim_top.specs.Commands.{AreInRange, IsShort, Told, joined_limit, state_limit, Run, Vcd, Save, Resume, job, text_given};
-ghost use Rattle.sim_top.specs.Texts.{stimulus_limit, reads_all, HasNone, IsPart};
+ghost use Rattle.asked_texts.specs.Commands.{AreInRange, IsShort, Told, joined_limit, state_limit, Run, Vcd, Save, Resume, Log, job, text_given};
+ghost use Rattle.asked_texts.specs.Texts.{stimulus_limit, reads_all, HasNone, IsPart};
 ghost use Rattle.sim_top.specs.Answers.{fault_bytes, whole_bytes, stimulus_bytes, whole_stimulus_bytes, state_bytes, whole_state_bytes, RefusesStimulus, TakesStimulus, RefusesState, TakesState, JudgesTexts, Judges};
 ghost use Rattle.sim_top.specs.declared.judge.Reply.{Reply as TheReply};
 ghost use Rattle.sim_top.specs.Endings.{IsFaultLine, Gives, IsFor, IsRunnable};
 ghost use Rattle.snapshot_text.specs.Faults.{place_of as place_in_state};
 ghost use Rattle.state_texts.specs.Held.{IsStartOf};
 
-use crate::texts::{STIMULUS_LIMIT, WholeFault, split};
-use crate::words::{Command, StateText};
+use asked_texts::{Command, StateText, WholeFault, split};
 use bit_words::List;
 use circuit_dump::variables;
 use circuit_state::first_snapshot;
@@ -37,11 +36,20 @@ use std::alloc::{AllocError, Global};
 use stimulus::{StimFault, Stimulus, read_stimulus};
 use trace_print::widths_text;
 
+/// The greatest length of a joined text in bytes.
+pub const JOINED_LIMIT: usize = 20_971_520;
+
+/// The greatest length of a stimulus's text in bytes.
+pub const STIMULUS_LIMIT: usize = 4_194_304;
+
+/// The greatest length of a state's text in bytes.
+pub const STATE_LIMIT: usize = 67_108_864;
+
 /// The place of a fault of a text as a whole.
 const FRONT: Place = Place { line: 1, column: 1 };
 
 /// What is to be done: a reply is said; or a circuit is run under a stimulus, with these leaves watched or dumped, each by its number, or from
-/// a snapshot to the state that it leads to, or from a snapshot with these leaves watched.
+/// a snapshot to the state that it leads to, or from a snapshot with these leaves watched, or with its items printed.
 #[derive(Drop)]
 pub enum Decision {
     Say(Reply),
@@ -49,6 +57,7 @@ pub enum Decision {
     Dump(Built, Stimulus, List<u32>),
     Save(Built, Stimulus, Snapshot),
     Resume(Built, Stimulus, List<u32>, Snapshot),
+    Log(Built, Stimulus),
 }
 
 /// A status and the bytes that are written.
@@ -84,6 +93,7 @@ fn judge_whole(alloc: Global, command: Command<'_, '_>, text: &[u8]) -> Result<D
         Command::Vcd(_) => refuse_unstimulated(alloc),
         Command::Save(_) => refuse_unstimulated(alloc),
         Command::Resume(_) => refuse_unstimulated(alloc),
+        Command::Log => refuse_unstimulated(alloc),
         Command::Check => Ok(judge_part(alloc, command, text, &[])?),
         Command::Widths => Ok(judge_part(alloc, command, text, &[])?),
         Command::Cut(_) => Ok(judge_part(alloc, command, text, &[])?),
@@ -167,6 +177,7 @@ fn judge_built(
         Command::Vcd(names) => dump(alloc, built, names, stimulus),
         Command::Save(begin) => save(alloc, built, begin, stimulus),
         Command::Resume(begin) => resume(alloc, built, begin, stimulus),
+        Command::Log => log(alloc, built, stimulus),
         Command::Check => answer(alloc, command, built),
         Command::Widths => answer(alloc, command, built),
         Command::Cut(_) => answer(alloc, command, built),
@@ -202,6 +213,7 @@ fn reply_to(alloc: Global, command: Command<'_, '_>, built: &Built) -> Result<Re
         Command::Vcd(_) => unreachable!(),
         Command::Save(_) => unreachable!(),
         Command::Resume(_) => unreachable!(),
+        Command::Log => unreachable!(),
     }
 }
 
@@ -325,6 +337,18 @@ fn resume(
             }
             Err(reply) => Ok(Decision::Say(reply)),
         },
+        Err(reply) => Ok(Decision::Say(reply)),
+    }
+}
+
+/// What `log` answers to a circuit without a fault and to a stimulus's text.
+fn log(alloc: Global, built: Built, stimulus: &[u8]) -> Result<Decision, AllocError>
+    requires { (text : List ℕ) × IsBuilt text built }
+    ensures judges { IfOk result (λ d. (text : List ℕ) → IsBuilt text built → Gives (JudgesTexts Log text stimulus.now) d) }
+    ensures fits { IfOk result (IsFor Log) }
+{
+    match take_stimulus(alloc, &built, stimulus)? {
+        Ok(settings) => Ok(Decision::Log(built, settings)),
         Err(reply) => Ok(Decision::Say(reply)),
     }
 }

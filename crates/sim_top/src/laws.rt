@@ -1,7 +1,7 @@
 //! Laws of the definitions that the contracts here name. The functions do nothing.
 
 ghost use Rattle.std.specs.Prelude.{◌≡◌, ℕ, Bool, List, Option, Some};
-ghost use Rattle.command_words.specs.Commands.{Run, Make, Vcd, Save, Resume, command_of};
+ghost use Rattle.command_words.specs.Commands.{Run, Make, Vcd, Save, Resume, Log, command_of};
 ghost use Rattle.sim_top.specs.Answers.{Answers};
 
 /// A command line has at most one answer over the texts that are held: one status, and the same bytes.
@@ -26,4 +26,6 @@ pub fn workers_change_no_answer()
         → command_of others ≡ Some (Save more circuit state) → (texts : List ℕ → Option (List ℕ)) (status : ℕ) (bytes : List ℕ) → Answers words texts status bytes → Answers others texts status bytes }
     ensures resume { (words others : List (List ℕ)) (workers more : ℕ) (circuit state : List ℕ) → command_of words ≡ Some (Resume workers circuit state)
         → command_of others ≡ Some (Resume more circuit state) → (texts : List ℕ → Option (List ℕ)) (status : ℕ) (bytes : List ℕ) → Answers words texts status bytes → Answers others texts status bytes }
+    ensures log { (words others : List (List ℕ)) (workers more : ℕ) (circuit : List ℕ) → command_of words ≡ Some (Log workers circuit)
+        → command_of others ≡ Some (Log more circuit) → (texts : List ℕ → Option (List ℕ)) (status : ℕ) (bytes : List ℕ) → Answers words texts status bytes → Answers others texts status bytes }
 {}

@@ -7,8 +7,6 @@
 pub mod example;
 mod judge;
 pub mod laws;
-mod texts;
 mod top;
-mod words;
 
 pub use top::run_program;

@@ -12,17 +12,21 @@ ghost use Rattle.circuit_make.specs.Rings.{InRange, ring_text};
 ghost use Rattle.crew_run.specs.Summaries.{IsSummary};
 ghost use Rattle.sim_engine.specs.Stages.{circuit_limit};
 ghost use Rattle.command_words.specs.Commands.{Request, command_of};
-ghost use Rattle.sim_top.specs.Commands.{AreInRange, IsShort, joined_limit, IsCrew, IsInRange, Run as Job_run, Of_joined, Of_two, Of_state, Of_made, job_from, text_given, told, asked_by, job, question, workers_asked, refined_asked, NeedsFor, Needs};
-ghost use Rattle.sim_top.specs.Answers.{JudgesTexts, Judges, AnswersTo, Answers};
-ghost use Rattle.sim_top.specs.Endings.{Ends, IsSaid, IsRun, IsWritten, IsFaultLine, IsReply, Gives, GivesDump, GivesFrom, IsFor, IsReady, IsRunnable, IsDumpable, IsSavable, IsResumable, status_of};
+ghost use Rattle.asked_texts.specs.Commands.{AreInRange, IsShort, joined_limit, IsCrew, IsInRange, Run as Job_run, Of_joined, Of_two, Of_state, Of_made, job_from, text_given, told, asked_by, job, question, workers_asked, refined_asked};
+ghost use Rattle.sim_top.specs.Needing.{NeedsFor, Needs};
+ghost use Rattle.sim_top.specs.Answers.{IsLogText, JudgesTexts, Judges, AnswersTo, Answers};
+ghost use Rattle.sim_top.specs.Endings.{Ends, IsSaid, IsRun, IsWritten, IsCarriedOut, IsFaultLine, IsReply, Gives, IsFor, IsReady, IsRunnable, IsDumpable, IsSavable, IsResumable, IsLoggable, status_of};
 ghost use Rattle.state_texts.specs.Held.{IsStartOf};
 ghost use Rattle.state_texts.specs.Texts.{IsResumedText, IsSavedText};
 
-use crate::judge::{Decision, Reply, judge, judge_texts, judge_under_long, refuse_whole};
-use crate::texts::{JOINED_LIMIT, STATE_LIMIT, STIMULUS_LIMIT, WholeFault};
-use crate::words::{Asked, Command, Keeping, StateText, order_of};
+use crate::judge::{
+    Decision, JOINED_LIMIT, Reply, STATE_LIMIT, STIMULUS_LIMIT, judge, judge_texts,
+    judge_under_long, refuse_whole,
+};
+use asked_texts::{Asked, Command, Keeping, StateText, WholeFault, order_of};
 use bit_words::List;
 use circuit_dump::simulate_vcd;
+use circuit_log::{LogPlan, simulate_log};
 use circuit_make::{MakeFault, make_joined};
 use circuit_run::RunFault;
 use circuit_state::{resume, save};
@@ -115,41 +119,7 @@ pub fn run_program<R: Threads + Wait + Sync, H: Shelf, K: Sink, G: Gate + Sync>(
                 workers: task.workers,
                 refined: task.refined,
             };
-            match task.decision {
-                Decision::Say(reply) => say(sink, &reply),
-                Decision::Run(built, stimulus, watch) => {
-                    let errand = Errand {
-                        built: &built,
-                        stimulus: &stimulus,
-                        watch: watch.as_slice(),
-                    };
-                    run(alloc, &crew, &errand, sink)
-                }
-                Decision::Dump(built, stimulus, numbers) => {
-                    let errand = Errand {
-                        built: &built,
-                        stimulus: &stimulus,
-                        watch: numbers.as_slice(),
-                    };
-                    dump(alloc, &crew, &errand, sink)
-                }
-                Decision::Save(built, stimulus, start) => {
-                    let errand = Errand {
-                        built: &built,
-                        stimulus: &stimulus,
-                        watch: &[],
-                    };
-                    write_state(alloc, &crew, &errand, &start, sink)
-                }
-                Decision::Resume(built, stimulus, watch, start) => {
-                    let errand = Errand {
-                        built: &built,
-                        stimulus: &stimulus,
-                        watch: watch.as_slice(),
-                    };
-                    go_on(alloc, &crew, &errand, &start, sink)
-                }
-            }
+            carry_out(alloc, &crew, &task.decision, sink)
         }
         Err(TakeFault::NoMemory) => 6,
         Err(_) => 4,
@@ -398,6 +368,7 @@ fn decide_made<R: Threads + Wait + Sync, G: Gate + Sync>(
         Decision::Dump(_, _, _) => unreachable!(),
         Decision::Save(_, _, _) => unreachable!(),
         Decision::Resume(_, _, _, _) => unreachable!(),
+        Decision::Log(_, _) => unreachable!(),
     }
 }
 
@@ -448,6 +419,59 @@ fn make_text(alloc: Global, cycles: u32, size: u32) -> Result<Vec<u8>, AllocErro
         Ok(text) => Ok(text),
         Err(MakeFault::Range) => unreachable!(),
         Err(MakeFault::NoMemory) => Err(AllocError),
+    }
+}
+
+/// Carries out what was decided, and gives the status; or 5 where the sink failed, or 6 where memory was wanted.
+fn carry_out<R: Threads + Wait + Sync, G: Gate + Sync, K: Sink>(
+    alloc: Global,
+    crew: &Crew<'_, R, G>,
+    decision: &Decision,
+    sink: &mut K,
+) -> u8
+    requires ready { IsReady decision.now }
+    requires some { 1 ≤ crew.now.workers }
+    requires most { crew.now.workers ≤ 64 }
+    ensures carried { IsCarriedOut decision.now result (K.written sink.old) (K.written sink.new) }
+    ensures status { (result ≡ status_of decision.now) ⊎ (result ≡ 5) ⊎ (result ≡ 6) }
+    ensures rose { result ≡ 5 → Rose (K.faults sink.old) (K.faults sink.new) }
+    ensures spared { result ≢ 5 → K.faults sink.new ≡ K.faults sink.old }
+{
+    match decision {
+        Decision::Say(reply) => say(sink, reply),
+        Decision::Run(built, stimulus, watch) => {
+            let errand = errand_of(built, stimulus, watch.as_slice());
+            run(alloc, crew, &errand, sink)
+        }
+        Decision::Dump(built, stimulus, numbers) => {
+            let errand = errand_of(built, stimulus, numbers.as_slice());
+            dump(alloc, crew, &errand, sink)
+        }
+        Decision::Save(built, stimulus, start) => {
+            let errand = errand_of(built, stimulus, &[]);
+            write_state(alloc, crew, &errand, start, sink)
+        }
+        Decision::Resume(built, stimulus, watch, start) => {
+            let errand = errand_of(built, stimulus, watch.as_slice());
+            go_on(alloc, crew, &errand, start, sink)
+        }
+        Decision::Log(built, stimulus) => {
+            let errand = errand_of(built, stimulus, &[]);
+            log(alloc, crew, &errand, sink)
+        }
+    }
+}
+
+/// A circuit that is run under a stimulus, with the leaves of these numbers watched or dumped.
+fn errand_of<'a>(built: &'a Built, stimulus: &'a Stimulus, watch: &'a [u32]) -> Errand<'a>
+    ensures built { result.built.now ≡ built.now }
+    ensures stimulus { result.stimulus.now ≡ stimulus.now }
+    ensures watch { result.watch.now ≡ watch.now }
+{
+    Errand {
+        built,
+        stimulus,
+        watch,
     }
 }
 
@@ -643,6 +667,39 @@ fn go_on<R: Threads + Wait + Sync, G: Gate + Sync, K: Sink>(
     };
     match resume(alloc, &host, &plan, start, sink) {
         Ok(_closed) => 0,
+        Err(RunFault::WriteFault) => 5,
+        Err(RunFault::NoMemory) => 6,
+    }
+}
+
+/// Runs a circuit and writes its log, and gives 0; or 5 where the sink failed, or 6 where memory was wanted.
+fn log<R: Threads + Wait + Sync, G: Gate + Sync, K: Sink>(
+    alloc: Global,
+    crew: &Crew<'_, R, G>,
+    errand: &Errand<'_>,
+    sink: &mut K,
+) -> u8
+    requires loggable { IsLoggable errand.now.built.now errand.now.stimulus.now }
+    requires some { 1 ≤ crew.now.workers }
+    requires most { crew.now.workers ≤ 64 }
+    ensures logged { (bytes : List ℕ) × IsLogText errand.now.built.now.fitted errand.now.stimulus.now bytes × IsRun result bytes (K.written sink.old) (K.written sink.new) }
+    ensures status { (result ≡ 0) ⊎ (result ≡ 5) ⊎ (result ≡ 6) }
+    ensures rose { result ≡ 5 → Rose (K.faults sink.old) (K.faults sink.new) }
+    ensures spared { result ≢ 5 → K.faults sink.new ≡ K.faults sink.old }
+{
+    let host = Host {
+        rt: crew.rt,
+        gate: crew.gate,
+    };
+    let plan = LogPlan {
+        fitted: &errand.built.fitted,
+        ordered: &errand.built.ordered,
+        ports: &errand.built.ports,
+        stimulus: errand.stimulus,
+        workers: crew.workers,
+    };
+    match simulate_log(alloc, &host, &plan, sink) {
+        Ok(()) => 0,
         Err(RunFault::WriteFault) => 5,
         Err(RunFault::NoMemory) => 6,
     }

@@ -17,3 +17,7 @@ returns-clause-saved c = λ circuit state. refl
 pub returns-clause-resumed : goal.returns-clause-resumed
 unfolding clap_on_literals
 returns-clause-resumed c = λ circuit state. refl
+
+pub returns-clause-logged : goal.returns-clause-logged
+unfolding clap_on_literals
+returns-clause-logged c = λ circuit. refl

@@ -134,6 +134,18 @@ pub returns-clause-resumers_twice : goal.returns-clause-resumers_twice
 unfolding clap_on_literals
 returns-clause-resumers_twice c = refl
 
+pub returns-clause-two_logged : goal.returns-clause-two_logged
+unfolding clap_on_literals
+returns-clause-two_logged c = refl
+
+pub returns-clause-many_loggers : goal.returns-clause-many_loggers
+unfolding clap_on_literals
+returns-clause-many_loggers c = refl
+
+pub returns-clause-loggers_twice : goal.returns-clause-loggers_twice
+unfolding clap_on_literals
+returns-clause-loggers_twice c = refl
+
 pub returns-clause-flag_of_save : goal.returns-clause-flag_of_save
 unfolding clap_on_literals
 returns-clause-flag_of_save c = refl
@@ -141,3 +153,7 @@ returns-clause-flag_of_save c = refl
 pub returns-clause-flag_of_resume : goal.returns-clause-flag_of_resume
 unfolding clap_on_literals
 returns-clause-flag_of_resume c = refl
+
+pub returns-clause-flag_of_log : goal.returns-clause-flag_of_log
+unfolding clap_on_literals
+returns-clause-flag_of_log c = refl

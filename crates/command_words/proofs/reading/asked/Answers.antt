@@ -1,11 +1,11 @@
 use Rattle.std.proofs.Common.{◌∙◌, ap, ap₂, subst, codes}
 use Rattle.clap.specs.Words.{found_of}
 use Rattle.clap.proofs.WalkLemmas.{first_value-rows, one_text-rows}
-use Rattle.command_words.specs.Commands.{AreOf, Run, Check, Widths, Cut, Make, Vcd, Refine, Save, Resume, is_set}
+use Rattle.command_words.specs.Commands.{AreOf, Run, Check, Widths, Cut, Make, Vcd, Refine, Save, Resume, Log, is_set}
 use Rattle.command_words.specs.declared.commands.Name.TheVariants as name
 use Rattle.command_words.proofs.Asking.{cycles_of, flag_of, size_of, workers_of}
 use Rattle.command_words.proofs.Matching.{ap₃, ap₄, text_or}
-use Rattle.command_words.proofs.Ranges.{cut_workers, make_workers, refine_workers, resume_workers, run_workers, save_workers, vcd_workers}
+use Rattle.command_words.proofs.Ranges.{cut_workers, log_workers, make_workers, refine_workers, resume_workers, run_workers, save_workers, vcd_workers}
 use Rattle.command_words.proofs.reading.asked.Goals as goal
 
 pub returns-in-Run-clause-command : goal.returns-in-Run-clause-command
@@ -108,11 +108,26 @@ returns-in-Resume-clause-command c =
     let m = c.args.matches.now in
     let workers = workers_of name.Resume m (subst (λ n. AreOf n m) c.in-Resume.is c.requires) resume_workers c.get_one.result (c.get_one.ensures.none, c.get_one.ensures.value) in
     let circuit = text_or c.get_str.result _ (found_of m) (codes "circuit") c.get_str.ensures in
-    let state = text_or c.get_str-in-Resume.result _ (found_of m) (codes "state") c.get_str-in-Resume.ensures in
-    rw c.in-Resume.is (ap₃ Resume _ _ _ _ _ _ (c.unwrap_or-workers.ensures ∙ workers.0) (ap (λ s. s.now) c.unwrap_or-circuit.ensures ∙ circuit) (ap (λ s. s.now) c.unwrap_or-in-Resume.ensures ∙ state))
+    rw c.in-Resume.is (ap₃ Resume _ _ _ _ _ _ (c.unwrap_or-workers.ensures ∙ workers.0) (ap (λ s. s.now) c.unwrap_or-circuit.ensures ∙ circuit) c.resumed_state.ensures)
+
+pub resumed_state-requires : goal.resumed_state-requires
+resumed_state-requires c = subst (λ n. AreOf n c.args.matches.now) c.in-Resume.is c.requires
 
 pub returns-in-Resume-clause-in_range : goal.returns-in-Resume-clause-in_range
 returns-in-Resume-clause-in_range c =
     let m = c.args.matches.now in
     let workers = workers_of name.Resume m (subst (λ n. AreOf n m) c.in-Resume.is c.requires) resume_workers c.get_one.result (c.get_one.ensures.none, c.get_one.ensures.value) in
+    rw c.unwrap_or-workers.ensures workers.1
+
+pub returns-in-Log-clause-command : goal.returns-in-Log-clause-command
+returns-in-Log-clause-command c =
+    let m = c.args.matches.now in
+    let workers = workers_of name.Log m (subst (λ n. AreOf n m) c.in-Log.is c.requires) log_workers c.get_one.result (c.get_one.ensures.none, c.get_one.ensures.value) in
+    let circuit = text_or c.get_str.result _ (found_of m) (codes "circuit") c.get_str.ensures in
+    rw c.in-Log.is (ap₂ Log (c.unwrap_or-workers.ensures ∙ workers.0) (ap (λ s. s.now) c.unwrap_or-circuit.ensures ∙ circuit))
+
+pub returns-in-Log-clause-in_range : goal.returns-in-Log-clause-in_range
+returns-in-Log-clause-in_range c =
+    let m = c.args.matches.now in
+    let workers = workers_of name.Log m (subst (λ n. AreOf n m) c.in-Log.is c.requires) log_workers c.get_one.result (c.get_one.ensures.none, c.get_one.ensures.value) in
     rw c.unwrap_or-workers.ensures workers.1

@@ -1,4 +1,4 @@
-use Rattle.sim_top.specs.Commands.{job}
+use Rattle.asked_texts.specs.Commands.{job}
 use Rattle.sim_top.proofs.Judging.{no_run}
 use Rattle.sim_top.proofs.judge.answer.Goals as goal
 

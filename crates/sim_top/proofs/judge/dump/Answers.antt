@@ -1,5 +1,5 @@
 use Rattle.std.proofs.Common.{arith}
-use Rattle.sim_top.specs.Commands.{Vcd}
+use Rattle.asked_texts.specs.Commands.{Vcd}
 use Rattle.sim_top.proofs.Judging.{no_trace, dump_unknown, dump_refused, dump_taken, vcd_no_run}
 use Rattle.sim_top.proofs.judge.dump.Goals as goal
 

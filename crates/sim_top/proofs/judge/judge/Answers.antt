@@ -1,5 +1,5 @@
-use Rattle.sim_top.specs.Commands.{job}
-use Rattle.sim_top.specs.Texts.{before_line}
+use Rattle.asked_texts.specs.Commands.{job}
+use Rattle.asked_texts.specs.Texts.{before_line}
 use Rattle.sim_top.proofs.judge.judge.Goals as goal
 
 pub returns-in_ok-judge_part-in-Some-clause-judges : goal.returns-in_ok-judge_part-in-Some-clause-judges

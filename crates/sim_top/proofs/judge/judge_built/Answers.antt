@@ -1,7 +1,7 @@
 use Rattle.std.proofs.Common.{ap, subst}
 use Rattle.std.proofs.lemmas.Result.{IfOk-weaker}
-use Rattle.sim_top.specs.Commands.{AreInRange, job}
-use Rattle.sim_top.specs.Texts.{reads_all}
+use Rattle.asked_texts.specs.Commands.{AreInRange, job}
+use Rattle.asked_texts.specs.Texts.{reads_all}
 use Rattle.sim_top.proofs.Judging.{gives_here}
 use Rattle.sim_top.proofs.judge.judge_built.Goals as goal
 
@@ -58,3 +58,9 @@ returns-in-Resume-clause-judges c = rw c.in-Resume.is c.resume.ensures.judges
 
 pub returns-in-Resume-clause-fits : goal.returns-in-Resume-clause-fits
 returns-in-Resume-clause-fits c = rw c.in-Resume.is c.resume.ensures.fits
+
+pub returns-in-Log-clause-judges : goal.returns-in-Log-clause-judges
+returns-in-Log-clause-judges c = rw c.in-Log.is c.log.ensures.judges
+
+pub returns-in-Log-clause-fits : goal.returns-in-Log-clause-fits
+returns-in-Log-clause-fits c = rw c.in-Log.is c.log.ensures.fits

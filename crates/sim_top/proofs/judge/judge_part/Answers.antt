@@ -1,5 +1,5 @@
 use Rattle.std.proofs.Common.{arith}
-use Rattle.sim_top.specs.Commands.{job}
+use Rattle.asked_texts.specs.Commands.{job}
 use Rattle.sim_top.proofs.Judging.{gives_part, long_part, no_trace}
 use Rattle.sim_top.proofs.judge.judge_part.Goals as goal
 

@@ -1,6 +1,6 @@
 use Rattle.place_text.specs.Places.{first_place}
-use Rattle.sim_top.specs.declared.texts.WholeFault.TheVariants.{TooLong}
-use Rattle.sim_top.specs.Commands.{Run}
+use Rattle.asked_texts.specs.declared.texts.WholeFault.TheVariants.{TooLong}
+use Rattle.asked_texts.specs.Commands.{Run}
 use Rattle.sim_top.specs.Endings.{of_circuit, of_whole_stimulus}
 use Rattle.sim_top.proofs.Judging.{ran_long, refused_from}
 use Rattle.sim_top.proofs.judge.judge_under_long.Goals as goal

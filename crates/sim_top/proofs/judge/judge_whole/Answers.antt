@@ -1,8 +1,8 @@
 use Rattle.std.proofs.Common.{ap, refl}
 use Rattle.std.proofs.lemmas.Result.{IfOk-weaker}
-use Rattle.sim_top.specs.declared.words.Command.TheVariants.{Run, Vcd, Save, Resume}
-use Rattle.sim_top.specs.Commands.{job}
-use Rattle.sim_top.specs.Texts.{all_of_it, reads_all}
+use Rattle.asked_texts.specs.declared.words.Command.TheVariants.{Run, Vcd, Save, Resume, Log}
+use Rattle.asked_texts.specs.Commands.{job}
+use Rattle.asked_texts.specs.Texts.{all_of_it, reads_all}
 use Rattle.sim_top.proofs.Judging.{lacks_line, unstimulated_fits}
 use Rattle.sim_top.proofs.judge.judge_whole.Goals as goal
 
@@ -45,3 +45,9 @@ returns-in-Resume-clause-judges c = IfOk-weaker _ _ _ (lacks_line c.args.command
 
 pub returns-in-Resume-clause-fits : goal.returns-in-Resume-clause-fits
 returns-in-Resume-clause-fits c = IfOk-weaker _ _ _ (unstimulated_fits (job c.args.command)) c.refuse_unstimulated-in-Resume.ensures
+
+pub returns-in-Log-clause-judges : goal.returns-in-Log-clause-judges
+returns-in-Log-clause-judges c = IfOk-weaker _ _ _ (lacks_line c.args.command Log _ c.in-Log.is refl c.requires.within c.requires.none) c.refuse_unstimulated-in-Log.ensures
+
+pub returns-in-Log-clause-fits : goal.returns-in-Log-clause-fits
+returns-in-Log-clause-fits c = IfOk-weaker _ _ _ (unstimulated_fits (job c.args.command)) c.refuse_unstimulated-in-Log.ensures

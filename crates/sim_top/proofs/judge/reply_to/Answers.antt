@@ -1,7 +1,7 @@
 use Rattle.std.proofs.Common.{◌∙◌, ap, subst, sym, true≢false}
 use Rattle.std.proofs.lemmas.Result.{IfOk-weaker}
-use Rattle.sim_top.specs.Commands.{AreInRange, job}
-use Rattle.sim_top.specs.Texts.{reads_all}
+use Rattle.asked_texts.specs.Commands.{AreInRange, job}
+use Rattle.asked_texts.specs.Texts.{reads_all}
 use Rattle.sim_top.proofs.Judging.{replies_check, replies_widths, replies_cut, replies_refine}
 use Rattle.sim_top.proofs.judge.reply_to.Goals as goal
 
@@ -40,3 +40,6 @@ unreachable-requires-in-Save c = true≢false (sym c.requires.unrun ∙ ap (λ k
 
 pub unreachable-requires-in-Resume : goal.unreachable-requires-in-Resume
 unreachable-requires-in-Resume c = true≢false (sym c.requires.unrun ∙ ap (λ k. reads_all (job k)) c.in-Resume.is)
+
+pub unreachable-requires-in-Log : goal.unreachable-requires-in-Log
+unreachable-requires-in-Log c = true≢false (sym c.requires.unrun ∙ ap (λ k. reads_all (job k)) c.in-Log.is)

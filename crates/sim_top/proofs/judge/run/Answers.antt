@@ -1,6 +1,6 @@
 use Rattle.std.proofs.Common.{arith, subst, sym}
 use Rattle.std.proofs.lemmas.Result.{IfOk-weaker}
-use Rattle.sim_top.specs.Commands.{Run}
+use Rattle.asked_texts.specs.Commands.{Run}
 use Rattle.sim_top.specs.Answers.{JudgesTexts}
 use Rattle.sim_top.specs.Endings.{Gives, IsFor}
 use Rattle.sim_top.proofs.Judging.{no_trace, ran_refused, ran_traced}

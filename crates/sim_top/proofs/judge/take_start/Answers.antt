@@ -4,7 +4,7 @@ use Rattle.snapshot_text.specs.declared.snapshot.Snapshot.{Snapshot}
 use Rattle.state_texts.specs.Held.{IsStartOf}
 use Rattle.std.proofs.lemmas.Result.{IfOk-weaker}
 use Rattle.sim_engine.specs.Building.{IsBuilt}
-use Rattle.sim_top.specs.Commands.{Told, Too_long, text_given}
+use Rattle.asked_texts.specs.Commands.{Told, Too_long, text_given}
 use Rattle.sim_top.specs.Answers.{TakesState, no_state, told_state}
 use Rattle.sim_top.proofs.Judging.{RefusesTheState, refuses_long_state, given_as}
 use Rattle.sim_top.proofs.judge.take_start.Goals as goal

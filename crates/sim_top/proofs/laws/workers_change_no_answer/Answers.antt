@@ -1,5 +1,5 @@
 use Rattle.std.proofs.Common.{ap, sym, ◌∙◌}
-use Rattle.sim_top.specs.Commands.{question_of}
+use Rattle.asked_texts.specs.Commands.{question_of}
 use Rattle.sim_top.proofs.AnswersOnce.{same_answers}
 use Rattle.sim_top.proofs.laws.workers_change_no_answer.Goals as goal
 
@@ -25,4 +25,8 @@ returns-clause-save c = λ words others workers more circuit state one other.
 
 pub returns-clause-resume : goal.returns-clause-resume
 returns-clause-resume c = λ words others workers more circuit state one other.
+    same_answers words others (ap question_of one ∙ sym (ap question_of other))
+
+pub returns-clause-log : goal.returns-clause-log
+returns-clause-log c = λ words others workers more circuit one other.
     same_answers words others (ap question_of one ∙ sym (ap question_of other))

@@ -1,6 +1,6 @@
 use Rattle.std.proofs.Common.{◌∙◌, ap, map, string_bytes}
-use Rattle.sim_top.specs.Commands.{workers_asked, refined_asked}
-use Rattle.sim_top.proofs.Asking.{none_asked, none_requested, order_asked, request_asked}
+use Rattle.asked_texts.specs.Commands.{workers_asked, refined_asked}
+use Rattle.asked_texts.proofs.Asking.{none_asked, none_requested, order_asked, request_asked}
 use Rattle.sim_top.proofs.Replying.{usage_answers, words_answer}
 use Rattle.sim_top.proofs.top.decide.Goals as goal
 

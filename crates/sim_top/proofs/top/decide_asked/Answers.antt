@@ -1,6 +1,7 @@
 use Rattle.std.proofs.Common.{subst}
-use Rattle.sim_top.specs.Commands.{IsInRange, question, the_joined}
-use Rattle.sim_top.specs.declared.words.Asked.{Asked}
+use Rattle.asked_texts.specs.Commands.{IsInRange, question}
+use Rattle.sim_top.specs.Needing.{the_joined}
+use Rattle.asked_texts.specs.declared.words.Asked.{Asked}
 use Rattle.sim_top.proofs.top.decide_asked.Goals as goal
 
 pub returns-in-Joined-clause-answers : goal.returns-in-Joined-clause-answers

@@ -1,6 +1,6 @@
 use Rattle.std.proofs.Common.{ap, Err}
-use Rattle.sim_top.specs.Commands.{job}
-use Rattle.sim_top.specs.declared.texts.WholeFault.TheVariants.{TooLong}
+use Rattle.asked_texts.specs.Commands.{job}
+use Rattle.asked_texts.specs.declared.texts.WholeFault.TheVariants.{TooLong}
 use Rattle.sim_top.proofs.Replying.{ready_decision, no_usage, whole_ready, name_answers, long_answers}
 use Rattle.sim_top.proofs.top.decide_joined.Goals as goal
 

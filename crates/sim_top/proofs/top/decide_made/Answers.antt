@@ -1,5 +1,5 @@
 use Rattle.std.proofs.Common.{subst}
-use Rattle.sim_top.specs.Commands.{Run}
+use Rattle.asked_texts.specs.Commands.{Run}
 use Rattle.sim_top.specs.Endings.{IsFor}
 use Rattle.sim_top.proofs.Replying.{made_said, made_reply, made_usage, made_run}
 use Rattle.sim_top.proofs.top.decide_made.Goals as goal

@@ -1,8 +1,9 @@
 use Rattle.std.proofs.Common.{◌≤◌, length, ap, Err, List, ℕ, subst, sym, ◌∙◌}
 use Rattle.std.proofs.lemmas.Result.{IfOk-weaker}
-use Rattle.sim_top.specs.Commands.{joined_limit, the_held, the_state}
+use Rattle.asked_texts.specs.Commands.{joined_limit}
+use Rattle.sim_top.specs.Needing.{the_held, the_state}
 use Rattle.sim_top.proofs.AnswersOnce.{some_same}
-use Rattle.sim_top.specs.declared.texts.WholeFault.TheVariants.{TooLong}
+use Rattle.asked_texts.specs.declared.texts.WholeFault.TheVariants.{TooLong}
 use Rattle.sim_top.proofs.Replying.{whole_ready, state_answers, long_state_answers, rose_behind, err_same}
 use Rattle.sim_top.proofs.top.decide_state.Goals as goal
 

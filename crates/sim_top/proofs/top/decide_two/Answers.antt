@@ -1,9 +1,9 @@
 use Rattle.std.proofs.Common.{◌≤◌, length, ap, Err, List, ℕ, subst, sym, ◌∙◌}
 use Rattle.std.proofs.lemmas.Result.{IfOk-weaker}
 use Rattle.sim_engine.specs.Stages.{circuit_limit}
-use Rattle.sim_top.specs.Commands.{the_circuit, the_stimulus}
+use Rattle.sim_top.specs.Needing.{the_circuit, the_stimulus}
 use Rattle.sim_top.proofs.AnswersOnce.{some_same}
-use Rattle.sim_top.specs.declared.texts.WholeFault.TheVariants.{TooLong}
+use Rattle.asked_texts.specs.declared.texts.WholeFault.TheVariants.{TooLong}
 use Rattle.sim_top.proofs.Replying.{whole_ready, texts_answer, circuit_answers, rose_behind, err_same}
 use Rattle.sim_top.proofs.top.decide_two.Goals as goal
 

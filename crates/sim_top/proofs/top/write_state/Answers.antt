@@ -8,7 +8,7 @@ returns-in-Ok-clause-saved g c = λ begin begins.
     written_said _ _ _ _ _ (c.in-Ok.ensures.saved _ _ b.ordered.serves (accepted_apart _ _ b.accepted) begin begins) c.say.ensures.said
 
 pub returns-in-Ok-clause-status : goal.returns-in-Ok-clause-status
-returns-in-Ok-clause-status g c = said_status _ _ _ _ c.say.ensures.said
+returns-in-Ok-clause-status g c = said_status 0 _ _ _ _ c.say.ensures.said
 
 pub returns-in-Err-clause-saved : goal.returns-in-Err-clause-saved
 returns-in-Err-clause-saved g c = λ begin begins. written_none _ _

@@ -1,16 +1,7 @@
-//! The texts: how long they may be, their faults as a whole, and the two that a joined text holds.
+//! The faults of texts as a whole, and the two texts that a joined one holds.
 
 ghost use Rattle.std.specs.Prelude.{◌≡◌, ℕ, List, ◌≤◌, length, drop, take, IfSome, IfNone, ◌≢◌, slice_get, Some};
-ghost use Rattle.sim_top.specs.Texts.{IsStimulusLine, IsSplit, HasNone, EndsFirst, whole_name};
-
-/// The greatest length of a joined text in bytes.
-pub const JOINED_LIMIT: usize = 20_971_520;
-
-/// The greatest length of a stimulus's text in bytes.
-pub const STIMULUS_LIMIT: usize = 4_194_304;
-
-/// The greatest length of a state's text in bytes.
-pub const STATE_LIMIT: usize = 67_108_864;
+ghost use Rattle.asked_texts.specs.Texts.{IsStimulusLine, IsSplit, HasNone, EndsFirst, whole_name};
 
 /// What is wrong with a circuit's, a stimulus's or a state's text as a whole, or with the words that name its leaves.
 #[derive(Clone, Copy, Debug)]

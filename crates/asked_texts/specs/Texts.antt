@@ -1,10 +1,8 @@
 -- The texts: how long they may be, their faults as a whole, and where the stimulus begins in a text that holds both.
 use Rattle.std.specs.Prelude.{◌≡◌, ◌≢◌, ℕ, ◌+◌, ◌-◌, ◌<◌, ◌≤◌, Bool, true, false, List, [], ◌++◌, length, take, drop, codes, slice_get, Some, ◌⊎◌}
-use Rattle.crew_run.specs.Summaries.{BeginsLine}
-use Rattle.sim_engine.specs.Stages.{circuit_limit}
-use Rattle.sim_top.specs.declared.texts.WholeFault.{WholeFault}
-use Rattle.sim_top.specs.declared.texts.WholeFault.TheVariants.{TooLong, NoStimulus, WatchUnknown}
-use Rattle.sim_top.specs.Commands.{Job, Run, Check, Widths, Cut, Refine, Vcd, Save, Resume, joined_limit}
+use Rattle.asked_texts.specs.declared.texts.WholeFault.{WholeFault}
+use Rattle.asked_texts.specs.declared.texts.WholeFault.TheVariants.{TooLong, NoStimulus, WatchUnknown}
+use Rattle.asked_texts.specs.Commands.{Job, Run, Check, Widths, Cut, Refine, Vcd, Save, Resume, Log}
 
 -- the greatest length of a stimulus's text, in bytes
 abbrev pub stimulus_limit : ℕ
@@ -22,10 +20,10 @@ abbrev pub IsStimulusLine : List ℕ → List ℕ → Type 0
 IsStimulusLine bytes after =
     (bytes ≡ codes "%stimulus\n" ++ after) ⊎ (bytes ≡ codes "%stimulus\r\n" ++ after) ⊎ ((bytes ≡ codes "%stimulus") × (after ≡ []))
 
--- the line `%stimulus` stands at the offset, with this behind it
+-- the line `%stimulus` stands at the offset, with this behind it: it is the text's first line, or stands behind a line feed
 pub record StandsAt (text : List ℕ) (at : ℕ) (after : List ℕ) : Type 0 where
   pub within : at ≤ length text
-  pub begins : BeginsLine text at
+  pub begins : 0 < at → slice_get text (at - 1) ≡ Some 10
   pub line : IsStimulusLine (drop at text) after
 
 -- no such line stands before the offset
@@ -60,15 +58,10 @@ reads_all (Refine workers) = true
 reads_all (Vcd names) = false
 reads_all (Save begin) = false
 reads_all (Resume begin) = false
+reads_all Log = false
 
 -- The circuit's text and the stimulus's: what stands before the line `%stimulus`, and what stands behind it. Where the circuit isn't run all of
 -- a text without such a line is the circuit's, and the stimulus's is empty.
 pub data IsPart : Job → List ℕ → List ℕ → List ℕ → Type 0 where
   before_line : (job : Job) (joined circuit stimulus : List ℕ) → IsSplit joined circuit stimulus → IsPart job joined circuit stimulus
   all_of_it : (job : Job) (joined : List ℕ) → reads_all job ≡ true → HasNone joined → IsPart job joined joined []
-
--- the circuit's text was taken: all is within its limit
-pub record IsTaken (job : Job) (joined circuit stimulus : List ℕ) : Type 0 where
-  pub within : length joined ≤ joined_limit
-  pub part : IsPart job joined circuit stimulus
-  pub short : length circuit ≤ circuit_limit

@@ -2,7 +2,7 @@
 
 ghost use Rattle.std.specs.Prelude.{◌≡◌, ◌≤◌, false, option_map, Some};
 ghost use Rattle.command_words.specs.Commands.{InRange, request_of};
-ghost use Rattle.sim_top.specs.Commands.{IsInRange, IsCrew, Of_joined, job, question, run_question, save_question, question_of, workers_asked, refined_asked};
+ghost use Rattle.asked_texts.specs.Commands.{IsInRange, IsCrew, Of_joined, job, question, run_question, save_question, question_of, workers_asked, refined_asked};
 
 /// What is done with a joined text.
 #[derive(Clone, Copy)]
@@ -23,6 +23,8 @@ pub enum Command<'b, 'a> {
     Save(Option<StateText<'b>>),
     /// Runs a circuit under a stimulus from a state.
     Resume(StateText<'b>),
+    /// Runs a circuit under a stimulus and writes what it prints.
+    Log,
 }
 
 /// The text of a state, or that it has more bytes than its limit.
@@ -123,6 +125,7 @@ pub fn order_of<'b, 'a>(command: &'b command_words::Command<'a>) -> Order<'b, 'a
             workers: *workers,
             refined: false,
         },
+        command_words::Command::Log { workers, circuit } => joined(Command::Log, circuit, *workers),
     }
 }
 

@@ -3,8 +3,7 @@ use Rattle.std.proofs.Common.{◌≡◌, ◌≢◌, ℕ, zero, suc, ◌+◌, ◌
 use Rattle.std.specs.Prelude.{Some, slice_get}
 use native.Mathlib.Decide.{dec_le}
 use Rattle.std.proofs.lemmas.Grind.{common_steps}
-use Rattle.crew_run.specs.Summaries.{BeginsLine}
-use Rattle.sim_top.specs.Texts.{IsStimulusLine, NoneBefore, HasNone, EndsFirst}
+use Rattle.asked_texts.specs.Texts.{IsStimulusLine, NoneBefore, HasNone, EndsFirst}
 
 slice_get-drop : (n : ℕ) (l : List ℕ) (k : ℕ) → slice_get (drop n l) k ≡ slice_get l (n + k)
 slice_get-drop zero l k = let e : k ≡ 0 + k = omega arith in ap (slice_get l) e
@@ -14,21 +13,21 @@ slice_get-drop (suc n) (x ∷ l) k = let e : suc (n + k) ≡ suc n + k = omega a
 -- Where the search stands: at the beginning of a line, with no line `%stimulus` before.
 pub record Searched (text : List ℕ) (start : ℕ) : Type 0 where
   pub within : start ≤ length text
-  pub begins : BeginsLine text start
+  pub begins : 0 < start → slice_get text (start - 1) ≡ Some 10
   pub none : NoneBefore text start
 
 pub searched_from_start : (text : List ℕ) → Searched text 0
-searched_from_start text = record { within = omega arith; begins = inl refl; none = λ at after lt. absurd (omega arith) }
+searched_from_start text = record { within = omega arith; begins = λ lt. absurd (omega arith); none = λ at after lt. absurd (omega arith) }
 
 -- no line begins at an offset behind the start, unless a line feed stands before it
-between : (text : List ℕ) (start at : ℕ) → start < at → BeginsLine text at → slice_get (drop start text) (at - 1 - start) ≡ Some 10
-between text start at lt b = ⊎_elim (λ z. absurd (omega arith)) (λ (h : (0 < at) × (slice_get text (at - 1) ≡ Some 10)).
-    let e : start + (at - 1 - start) ≡ at - 1 = omega arith in slice_get-drop start text (at - 1 - start) ∙ ap (slice_get text) e ∙ h.1) b
+between : (text : List ℕ) (start at : ℕ) → start < at → (0 < at → slice_get text (at - 1) ≡ Some 10) → slice_get (drop start text) (at - 1 - start) ≡ Some 10
+between text start at lt b =
+    let e : start + (at - 1 - start) ≡ at - 1 = omega arith in slice_get-drop start text (at - 1 - start) ∙ ap (slice_get text) e ∙ b (omega arith)
 
 pub searched_on : (text : List ℕ) (start n : ℕ) → Searched text start → ((after : List ℕ) → IsStimulusLine (drop start text) after → ⊥) → EndsFirst (drop start text) n → Searched text (start + n)
 searched_on text start n s not_here line = record {
   within = let w = line.within in let l : length (drop start text) ≡ length text - start = grind (arith, common_steps) in let i = s.within in omega arith;
-  begins = let p = line.some in let e : start + (n - 1) ≡ start + n - 1 = omega arith in inr (omega arith, ap (slice_get text) (sym e) ∙ sym (slice_get-drop start text (n - 1)) ∙ line.feed);
+  begins = let p = line.some in let e : start + (n - 1) ≡ start + n - 1 = omega arith in λ behind. ap (slice_get text) (sym e) ∙ sym (slice_get-drop start text (n - 1)) ∙ line.feed;
   none = λ at after lt stands. elim (dec_le start at) [
     | yes le ↦ elim (dec_le at start) [
       | yes ge ↦ let e : at ≡ start = omega arith in not_here after (subst (λ k. IsStimulusLine (drop k text) after) e stands.line)

@@ -1,8 +1,8 @@
 -- A joined text is split in one way.
 use Rattle.std.proofs.Common.{◌≡◌, ℕ, ◌≤◌, false, true, List, ⊎_elim, drop, take, refl, sym, ap, ◌∙◌, subst, arith, lt_of_not-le}
 use native.Mathlib.Decide.{dec_le}
-use Rattle.sim_top.specs.Commands.{Job}
-use Rattle.sim_top.specs.Texts.{IsStimulusLine, StandsAt, NoneBefore, reads_all, HasNone, IsSplit, IsPart, all_of_it, before_line}
+use Rattle.asked_texts.specs.Commands.{Job}
+use Rattle.asked_texts.specs.Texts.{IsStimulusLine, StandsAt, NoneBefore, reads_all, HasNone, IsSplit, IsPart, all_of_it, before_line}
 
 -- what stands behind the line
 line_once : (bytes a b : List ℕ) → IsStimulusLine bytes a → IsStimulusLine bytes b → a ≡ b

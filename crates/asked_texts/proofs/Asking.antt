@@ -1,10 +1,10 @@
 -- What is asked.
 use Rattle.std.proofs.Common.{◌≡◌, ◌∙◌, ℕ, List, Option, Some, None, sym, ap}
 use Rattle.std.specs.Prelude.{option_map}
+use Rattle.std.proofs.lemmas.Option.{same_Some}
 use Rattle.command_words.specs.declared.command.Command.{Command}
 use Rattle.command_words.specs.Commands.{Request, command_of, request_of}
-use Rattle.sim_top.specs.Commands.{Question, asked_by, question_of}
-use Rattle.sim_top.proofs.AnswersOnce.{some_same}
+use Rattle.asked_texts.specs.Commands.{Question, asked_by, question_of}
 
 -- what was read of some words
 abbrev pub IsReadFrom : Option Command → List (List ℕ) → Type 0
@@ -25,4 +25,4 @@ order_asked o command words question e h is = ap question_of (command_asked o co
 
 pub request_asked : (o : Option Command) (command : Command) (words : List (List ℕ)) (request : Request) → o ≡ Some command → IsReadFrom o words
     → command_of words ≡ Some request → request_of command ≡ request
-request_asked o command words request e h is = some_same (request_of command) request (sym (command_asked o command words e h) ∙ is)
+request_asked o command words request e h is = same_Some (request_of command) request (sym (command_asked o command words e h) ∙ is)

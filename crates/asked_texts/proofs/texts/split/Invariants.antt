@@ -1,6 +1,6 @@
 use Rattle.std.proofs.Common.{length, ◌-◌}
-use Rattle.sim_top.proofs.Searching.{Searched}
-use Rattle.sim_top.proofs.texts.split.Given as goal
+use Rattle.asked_texts.proofs.Searching.{Searched}
+use Rattle.asked_texts.proofs.texts.split.Given as goal
 
 abbrev pub invariant-lines : goal.invariant-lines
 invariant-lines l = Searched l.text l.start

@@ -1,18 +1,17 @@
 -- What a command line asks for.
-use Rattle.std.specs.Prelude.{◌≡◌, ⊤, ℕ, ◌≤◌, nat_le, Bool, false, List, map, length, Option, Some, None, option_map, if◌then◌else◌}
+use Rattle.std.specs.Prelude.{⊤, ℕ, ◌≤◌, nat_le, Bool, false, List, map, length, Option, Some, None, option_map, if◌then◌else◌}
 use Rattle.circuit_make.specs.Rings.{InRange}
-use Rattle.command_words.specs.Commands.{Request, Run as Run_asked, Check as Check_asked, Widths as Widths_asked, Cut as Cut_asked, Make as Make_asked, Vcd as Vcd_asked, Refine as Refine_asked, Save as Save_asked, Resume as Resume_asked, command_of}
-use Rattle.sim_engine.specs.Stages.{circuit_limit}
-use Rattle.sim_top.specs.declared.words.Command.{Command}
-use Rattle.sim_top.specs.declared.words.Command.TheVariants as command
-use Rattle.sim_top.specs.declared.words.Asked.{Asked}
-use Rattle.sim_top.specs.declared.words.Asked.TheVariants as asked
-use Rattle.sim_top.specs.declared.words.StateText.{StateText as GivenText}
-use Rattle.sim_top.specs.declared.words.StateText.TheVariants as given
-use Rattle.sim_top.specs.declared.words.Keeping.{Keeping}
-use Rattle.sim_top.specs.declared.words.Keeping.TheVariants as keeping
+use Rattle.command_words.specs.Commands.{Request, Run as Run_asked, Check as Check_asked, Widths as Widths_asked, Cut as Cut_asked, Make as Make_asked, Vcd as Vcd_asked, Refine as Refine_asked, Save as Save_asked, Resume as Resume_asked, Log as Log_asked, command_of}
+use Rattle.asked_texts.specs.declared.words.Command.{Command}
+use Rattle.asked_texts.specs.declared.words.Command.TheVariants as command
+use Rattle.asked_texts.specs.declared.words.Asked.{Asked}
+use Rattle.asked_texts.specs.declared.words.Asked.TheVariants as asked
+use Rattle.asked_texts.specs.declared.words.StateText.{StateText as GivenText}
+use Rattle.asked_texts.specs.declared.words.StateText.TheVariants as given
+use Rattle.asked_texts.specs.declared.words.Keeping.{Keeping}
+use Rattle.asked_texts.specs.declared.words.Keeping.TheVariants as keeping
 
--- the greatest lengths of a joined text and of a state's text, in bytes
+-- The greatest lengths of a joined text and of a state's text, in bytes.
 abbrev pub joined_limit : ℕ
 joined_limit = 20971520
 
@@ -29,7 +28,7 @@ told text = if nat_le (length text) state_limit then Told text else Too_long
 
 -- What is done with a joined text: it is run, judged, listed, cut into so many parts by the first cut or by the refined one, run with the
 -- changes of the leaves of these names dumped, of main's watched leaves where there is no name; run from a state, or from all 0, to
--- the text of the state behind it; or run from a state.
+-- the text of the state behind it; run from a state; or run with what it prints written.
 pub data Job : Type 0 where
   Run : Job
   Check : Job
@@ -39,6 +38,7 @@ pub data Job : Type 0 where
   Vcd : (names : List (List ℕ)) → Job
   Save : (begin : Option StateText) → Job
   Resume : (begin : StateText) → Job
+  Log : Job
 
 -- the job that begins with a state
 abbrev pub job_from : Keeping → StateText → Job
@@ -74,6 +74,7 @@ question_of (Some (Vcd_asked workers circuit leaves)) = Some (Of_joined (Vcd lea
 question_of (Some (Refine_asked workers circuit)) = Some (Of_joined (Refine workers) circuit)
 question_of (Some (Save_asked workers circuit state)) = Some (save_question circuit state)
 question_of (Some (Resume_asked workers circuit state)) = Some (Of_state keeping.Resume circuit state)
+question_of (Some (Log_asked workers circuit)) = Some (Of_joined Log circuit)
 question_of None = None
 
 abbrev pub asked_by : List (List ℕ) → Option Question
@@ -90,6 +91,7 @@ workers_asked (Vcd_asked workers circuit leaves) = workers
 workers_asked (Refine_asked workers circuit) = workers
 workers_asked (Save_asked workers circuit state) = workers
 workers_asked (Resume_asked workers circuit state) = workers
+workers_asked (Log_asked workers circuit) = workers
 
 -- whether a request asks that the refined cut is run
 abbrev pub refined_asked : Request → Bool
@@ -99,25 +101,6 @@ refined_asked _ = false
 -- the number of workers of a crew
 abbrev pub IsCrew : ℕ → Type 0
 IsCrew workers = (1 ≤ workers) × (workers ≤ 64)
-
--- The texts that the answer to a question needs, where these texts are held, or it isn't told what is held: all that it names. The stimulus isn't
--- needed where the circuit's text is told and too long, and a state isn't where the joined text is. A circuit that is made needs none.
-pub data NeedsFor (held : Option (List ℕ → Option (List ℕ))) : Question → List ℕ → Type 0 where
-  the_joined : (job : Job) (name : List ℕ) → NeedsFor held (Of_joined job name) name
-  the_circuit : (circuit stimulus : List ℕ) → NeedsFor held (Of_two circuit stimulus) circuit
-  the_stimulus : (circuit stimulus : List ℕ)
-      → ((texts : List ℕ → Option (List ℕ)) (text : List ℕ) → held ≡ Some texts → texts circuit ≡ Some text → length text ≤ circuit_limit)
-      → NeedsFor held (Of_two circuit stimulus) stimulus
-  the_held : (keeping : Keeping) (circuit state : List ℕ) → NeedsFor held (Of_state keeping circuit state) circuit
-  the_state : (keeping : Keeping) (circuit state : List ℕ)
-      → ((texts : List ℕ → Option (List ℕ)) (text : List ℕ) → held ≡ Some texts → texts circuit ≡ Some text → length text ≤ joined_limit)
-      → NeedsFor held (Of_state keeping circuit state) state
-
--- whether the answer to a command line needs the text of this name
-pub record Needs (words : List (List ℕ)) (held : Option (List ℕ → Option (List ℕ))) (name : List ℕ) : Type 0 where
-  pub question : Question
-  pub asked : asked_by words ≡ Some question
-  pub needs : NeedsFor held question name
 
 -- a state's text is within its limit
 abbrev pub IsShort : Option StateText → Type 0
@@ -134,6 +117,7 @@ AreInRange (Refine workers) = IsCrew workers
 AreInRange (Vcd names) = ⊤
 AreInRange (Save begin) = IsShort begin
 AreInRange (Resume begin) = IsShort (Some begin)
+AreInRange Log = ⊤
 
 abbrev pub IsInRange : Question → Type 0
 IsInRange (Of_joined job name) = AreInRange job
@@ -155,6 +139,7 @@ job (command.Refine workers) = Refine workers
 job (command.Vcd names) = Vcd (map (λ name. name.now) names.now)
 job (command.Save begin) = Save (option_map text_given begin)
 job (command.Resume begin) = Resume (text_given begin)
+job command.Log = Log
 
 abbrev pub question : Asked → Question
 question (asked.Joined command name) = Of_joined (job command) name.now

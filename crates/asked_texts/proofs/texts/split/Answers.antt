@@ -1,8 +1,8 @@
 use Rattle.std.proofs.Common.{◌≢◌, ℕ, List, subst, arith}
 use Rattle.std.specs.Prelude.{Some, slice_get}
-use Rattle.sim_top.specs.Texts.{IsStimulusLine, EndsFirst}
-use Rattle.sim_top.proofs.Searching.{searched_on, searched_all, searched_to_end, from_start}
-use Rattle.sim_top.proofs.texts.split.Goals as goal
+use Rattle.asked_texts.specs.Texts.{IsStimulusLine, EndsFirst}
+use Rattle.asked_texts.proofs.Searching.{searched_on, searched_all, searched_to_end, from_start}
+use Rattle.asked_texts.proofs.texts.split.Goals as goal
 
 pub lines-preserved : goal.lines-preserved
 lines-preserved c =

@@ -1,0 +1,4 @@
+pub mod Searching
+pub mod Splitting
+pub mod Asking
+pub mod Examples

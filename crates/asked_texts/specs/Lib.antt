@@ -1,0 +1,3 @@
+-- what a reader must believe
+pub mod Commands
+pub mod Texts
