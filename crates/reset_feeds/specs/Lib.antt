@@ -2,5 +2,6 @@
 pub mod Grounds
 pub mod Feeds
 pub mod Resolved
--- what the search finds
+-- what the search finds, and where none is needed
 pub mod Searched
+pub mod Sources

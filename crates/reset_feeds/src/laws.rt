@@ -1,6 +1,6 @@
 //! Laws of the definitions. The functions do nothing.
 
-ghost use Rattle.std.specs.Prelude.{◌≡◌, ◌↔◌, true, Contains, length};
+ghost use Rattle.std.specs.Prelude.{◌≡◌, ◌↔◌, true, false, Contains, length};
 ghost use Rattle.std.specs.Prelude.{Bool, ℕ};
 ghost use Rattle.fir_types.specs.declared.fir_type.FirType.{FirType as AType};
 ghost use Rattle.fir_types.specs.Spots.{size};
@@ -10,6 +10,7 @@ ghost use Rattle.reset_feeds.specs.declared.spot.Feeds.{Feeds as TheFeeds};
 ghost use Rattle.reset_feeds.specs.Grounds.{grounds};
 ghost use Rattle.reset_feeds.specs.Feeds.{feed, IsReached};
 ghost use Rattle.reset_feeds.specs.Searched.{Graph, Leads, IsNumbered};
+ghost use Rattle.reset_feeds.specs.Sources.{has_source};
 ghost use Rattle.reset_feeds.specs.Resolved.{IsResolved, resolved, none_reached};
 
 /// A type has as many ground places as places with widths.
@@ -36,4 +37,9 @@ pub fn ways_lead_to_what_is_reached()
 /// A circuit has one resolved circuit at most.
 pub fn resolved_circuits_are_one()
     ensures { (circuit one other : ACircuit) → IsResolved circuit one → IsResolved circuit other → one ≡ other }
+{}
+
+/// A circuit in which no AsyncReset is declared, and no node and no connect has an `asAsyncReset`, resolves to itself.
+pub fn circuits_without_sources_resolve_to_themselves()
+    ensures { (circuit : ACircuit) → has_source circuit ≡ false → IsResolved circuit circuit }
 {}
