@@ -25,7 +25,7 @@ use Rattle.reset_feeds.specs.declared.spot.Spot.TheVariants.{Cast, Declared, OfN
 use Rattle.reset_feeds.specs.declared.spot.Reach.{Reach}
 use Rattle.reset_feeds.specs.Grounds.{grounds}
 use Rattle.reset_feeds.specs.Feeds as feeding
-use Rattle.reset_feeds.specs.Feeds.{Known, Gathered, Walk, WithPorts, nothing, and_then, in_turn, declared_from, node_from, reached_by, declares, declares_memory, declares_instance, named_as, names_node, connects, stmt_walk, arm_walk, reach, known_with, connected, memory_spots, lines_spots, port_spots, own_count, element_size, mask_size, instance_reach, ports_from, modules_from, known_ports, ports_asyncs, ports_count, bodies_from, all_ports, asyncs_among, fed_by, feeds_in}
+use Rattle.reset_feeds.specs.Feeds.{Known, Gathered, Walk, WithPorts, nothing, and_then, in_turn, declared_from, node_from, reached_by, declares, declares_memory, declares_instance, named_as, names_node, connects, stmt_walk, arm_walk, reach, known_with, connected, memory_spots, lines_spots, line_spots, line_count, port_spots, own_count, element_size, mask_size, Instances, instance_in, instance_reach, ports_from, modules_from, known_ports, ports_asyncs, ports_count, bodies_from, all_ports, asyncs_among, fed_by, feeds_in}
 use Rattle.reset_feeds.specs.declared.spot.Feeds.{Feeds}
 use Rattle.reset_feeds.specs.Sources as source
 use Rattle.reset_feeds.specs.Sources.{any_of, holds_async, is_a_cast, stmt_source, arm_source, port_source, module_source, has_source}
@@ -74,15 +74,19 @@ placed_port element mask n mode.ReadWriter h =
     placed_append (declared_from n 2) (element ++ (Declared (n + 2) ∷ (element ++ declared_from (n + 3) mask))) (placed_declared n 2)
     (placed_append element (Declared (n + 2) ∷ (element ++ declared_from (n + 3) mask)) h behind)
 
+placed_line : (element : List Spot) (mask n : ℕ) (l : MemLine) → Placed element → Placed (line_spots element mask n l)
+placed_line element mask n (line.MemPort at m name) h = placed_port element mask n m h
+placed_line element mask n (line.Element at typ) h = tt
+placed_line element mask n (line.Depth at d) h = tt
+placed_line element mask n (line.ReadLatency at d) h = tt
+placed_line element mask n (line.WriteLatency at d) h = tt
+placed_line element mask n (line.ReadUnder at u) h = tt
+
 placed_lines : (element : List Spot) (mask n : ℕ) (lines : List MemLine) → Placed element → Placed (lines_spots element mask n lines)
 placed_lines element mask n [] h = tt
-placed_lines element mask n (line.MemPort at m name ∷ lines) h =
-    placed_append (port_spots element mask n m) (lines_spots element mask (n + own_count mask m) lines) (placed_port element mask n m h) (placed_lines element mask (n + own_count mask m) lines h)
-placed_lines element mask n (line.Element at typ ∷ lines) h = placed_lines element mask n lines h
-placed_lines element mask n (line.Depth at d ∷ lines) h = placed_lines element mask n lines h
-placed_lines element mask n (line.ReadLatency at d ∷ lines) h = placed_lines element mask n lines h
-placed_lines element mask n (line.WriteLatency at d ∷ lines) h = placed_lines element mask n lines h
-placed_lines element mask n (line.ReadUnder at u ∷ lines) h = placed_lines element mask n lines h
+placed_lines element mask n (l ∷ lines) h =
+    placed_append (line_spots element mask n l) (lines_spots element mask (n + line_count mask l) lines) (placed_line element mask n l h)
+    (placed_lines element mask (n + line_count mask l) lines h)
 
 clean_memory : (memory : Memory) → holds_async (element_of memory) ≡ false → CleanWalk (declares_memory memory)
 clean_memory memory e known n k h = record {
@@ -121,12 +125,8 @@ found_placed target [] h = tt
 found_placed target (m ∷ modules) h =
     found_if (m.holder.name.id == target) (Some m) (find (λ m. m.holder.name.id == target) modules) (joined_placed m.ports h.0.placed, instance_plain m.holder.ports h.0.ports) (found_placed target modules h.1)
 
-clean_instance : (modules : List WithPorts) (name target : ℕ) → PlainModules modules → CleanWalk (declares_instance modules name target)
-clean_instance modules name target p known n k h = record {
-  known = placed_with known name (option_map instance_reach (find (λ m. m.holder.name.id == target) modules)) h (found_placed target modules p);
-  feeds = tt;
-  asyncs = refl;
-}
+clean_instance : (instances : Instances) (name target : ℕ) → ((target : ℕ) → MayPlace (instances target)) → CleanWalk (declares_instance instances name target)
+clean_instance instances name target p known n k h = record { known = placed_with known name (instances target) h (p target); feeds = tt; asyncs = refl }
 
 -- Nodes and connects
 
@@ -150,36 +150,36 @@ clean_connects left right e f known n k h = record {
 
 -- Statements
 
-module _ (modules : List WithPorts) (plain : PlainModules modules) where
+module _ (instances : Instances) (plain : (target : ℕ) → MayPlace (instances target)) where
   abbrev StmtClean : Stmt → Type 0
-  StmtClean s = stmt_source s ≡ false → CleanWalk (stmt_walk modules s)
+  StmtClean s = stmt_source s ≡ false → CleanWalk (stmt_walk instances s)
 
   abbrev ArmClean : Arm → Type 0
-  ArmClean a = arm_source a ≡ false → CleanWalk (arm_walk modules a)
+  ArmClean a = arm_source a ≡ false → CleanWalk (arm_walk instances a)
 
-  all_clean : (ps : List ((s : Stmt) × StmtClean s)) → any_of (map stmt_source (map (λ e. e.0) ps)) ≡ false → CleanWalk (in_turn (map (stmt_walk modules) (map (λ e. e.0) ps)))
+  all_clean : (ps : List ((s : Stmt) × StmtClean s)) → any_of (map stmt_source (map (λ e. e.0) ps)) ≡ false → CleanWalk (in_turn (map (stmt_walk instances) (map (λ e. e.0) ps)))
   all_clean [] e = clean_nothing
   all_clean (p ∷ ps) e =
-      clean_then (stmt_walk modules p.0) (in_turn (map (stmt_walk modules) (map (λ e. e.0) ps))) (p.1 (or_left (stmt_source p.0) _ e)) (all_clean ps (or_right (stmt_source p.0) _ e))
+      clean_then (stmt_walk instances p.0) (in_turn (map (stmt_walk instances) (map (λ e. e.0) ps))) (p.1 (or_left (stmt_source p.0) _ e)) (all_clean ps (or_right (stmt_source p.0) _ e))
 
-  arms_clean : (ps : List ((a : Arm) × ArmClean a)) → any_of (map arm_source (map (λ e. e.0) ps)) ≡ false → CleanWalk (in_turn (map (arm_walk modules) (map (λ e. e.0) ps)))
+  arms_clean : (ps : List ((a : Arm) × ArmClean a)) → any_of (map arm_source (map (λ e. e.0) ps)) ≡ false → CleanWalk (in_turn (map (arm_walk instances) (map (λ e. e.0) ps)))
   arms_clean [] e = clean_nothing
   arms_clean (p ∷ ps) e =
-      clean_then (arm_walk modules p.0) (in_turn (map (arm_walk modules) (map (λ e. e.0) ps))) (p.1 (or_left (arm_source p.0) _ e)) (arms_clean ps (or_right (arm_source p.0) _ e))
+      clean_then (arm_walk instances p.0) (in_turn (map (arm_walk instances) (map (λ e. e.0) ps))) (p.1 (or_left (arm_source p.0) _ e)) (arms_clean ps (or_right (arm_source p.0) _ e))
 
   stmt_layer : (y : Stmt-F ((s : Stmt) × StmtClean s) ((a : Arm) × ArmClean a))
       → source.of_stmt (map-Stmt Stmt Arm Bool Bool stmt_source arm_source (map-Stmt _ _ Stmt Arm (λ e. e.0) (λ e. e.0) y)) ≡ false
-      → CleanWalk (feeding.of_stmt modules (map-Stmt Stmt Arm Walk Walk (stmt_walk modules) (arm_walk modules) (map-Stmt _ _ Stmt Arm (λ e. e.0) (λ e. e.0) y)))
+      → CleanWalk (feeding.of_stmt instances (map-Stmt Stmt Arm Walk Walk (stmt_walk instances) (arm_walk instances) (map-Stmt _ _ Stmt Arm (λ e. e.0) (λ e. e.0) y)))
   stmt_layer (Stmt-F.Wire name typ) e = clean_declares name.id typ e
   stmt_layer (Stmt-F.Reg name typ clock) e = clean_declares name.id typ e
   stmt_layer (Stmt-F.RegReset name typ clock reset init) e = clean_declares name.id typ e
   stmt_layer (Stmt-F.Mem memory) e = clean_memory memory e
-  stmt_layer (Stmt-F.Inst name target) e = clean_instance modules name.id target.id plain
+  stmt_layer (Stmt-F.Inst name target) e = clean_instance instances name.id target.id plain
   stmt_layer (Stmt-F.Node name x) e = clean_node name.id x e
   stmt_layer (Stmt-F.Connect left right) e = clean_connects left right (or_left (is_a_cast left) _ e) (or_right (is_a_cast left) _ e)
   stmt_layer (Stmt-F.Invalidate target) e = clean_nothing
   stmt_layer (Stmt-F.When arms other) e =
-      clean_then (in_turn (map (arm_walk modules) (map (λ e. e.0) arms))) (in_turn (map (stmt_walk modules) (map (λ e. e.0) other)))
+      clean_then (in_turn (map (arm_walk instances) (map (λ e. e.0) arms))) (in_turn (map (stmt_walk instances) (map (λ e. e.0) other)))
       (arms_clean arms (or_left (any_of (map arm_source (map (λ e. e.0) arms))) _ e)) (all_clean other (or_right (any_of (map arm_source (map (λ e. e.0) arms))) _ e))
   stmt_layer (Stmt-F.Skip place) e = clean_nothing
 
@@ -187,17 +187,17 @@ module _ (modules : List WithPorts) (plain : PlainModules modules) where
   stmt_clean = ind-Stmt StmtClean ArmClean
       (λ x y is. subst (λ z. StmtClean (roll-Stmt z)) is
       (λ e. let z = map-Stmt _ _ Stmt Arm (λ e. e.0) (λ e. e.0) y in
-      subst CleanWalk (sym (fold-roll-Stmt Walk Walk (feeding.of_stmt modules) feeding.of_arm z))
+      subst CleanWalk (sym (fold-roll-Stmt Walk Walk (feeding.of_stmt instances) feeding.of_arm z))
       (stmt_layer y (sym (fold-roll-Stmt Bool Bool source.of_stmt source.of_arm z) ∙ e))))
       (λ x y is. subst (λ z. ArmClean (roll-Arm z)) is
       (λ e. let z = map-Arm _ _ Stmt Arm (λ e. e.0) (λ e. e.0) y in
-      subst CleanWalk (sym (fold-roll-Arm Walk Walk (feeding.of_stmt modules) feeding.of_arm z))
+      subst CleanWalk (sym (fold-roll-Arm Walk Walk (feeding.of_stmt instances) feeding.of_arm z))
       (all_clean y.body (sym (fold-roll-Arm Bool Bool source.of_stmt source.of_arm z) ∙ e))))
 
-  pub body_clean : (body : List Stmt) → list_any stmt_source body ≡ false → CleanWalk (in_turn (map (stmt_walk modules) body))
+  pub body_clean : (body : List Stmt) → list_any stmt_source body ≡ false → CleanWalk (in_turn (map (stmt_walk instances) body))
   body_clean [] e = clean_nothing
   body_clean (s ∷ body) e =
-      clean_then (stmt_walk modules s) (in_turn (map (stmt_walk modules) body)) (stmt_clean s (or_left (stmt_source s) _ e)) (body_clean body (or_right (stmt_source s) _ e))
+      clean_then (stmt_walk instances s) (in_turn (map (stmt_walk instances) body)) (stmt_clean s (or_left (stmt_source s) _ e)) (body_clean body (or_right (stmt_source s) _ e))
 
 -- Circuits
 
@@ -218,14 +218,15 @@ pub record CleanFeeds (f : Feeds) : Type 0 where
   pub feeds : FromPlaces f.feeds
   pub asyncs : f.asyncs ≡ []
 
-bodies_clean : (modules : List WithPorts) → PlainModules modules → (n k : ℕ) (rest : List WithPorts) → PlainModules rest → CleanFeeds (bodies_from modules n k rest)
-bodies_clean modules plain n k [] h = record { feeds = tt; asyncs = refl }
-bodies_clean modules plain n k (m ∷ rest) h =
-    let walk : Walk = in_turn (map (stmt_walk modules) m.holder.body) in
+bodies_clean : (instances : Instances) → ((target : ℕ) → MayPlace (instances target)) → (n k : ℕ) (rest : List WithPorts) → PlainModules rest
+    → CleanFeeds (bodies_from instances n k rest)
+bodies_clean instances plain n k [] h = record { feeds = tt; asyncs = refl }
+bodies_clean instances plain n k (m ∷ rest) h =
+    let walk : Walk = in_turn (map (stmt_walk instances) m.holder.body) in
     let ports : Known = known_ports m.holder.ports m.ports [] in
-    let body = body_clean modules plain m.holder.body h.0.body ports n k (known_ports_placed m.holder.ports m.ports [] h.0.ports h.0.placed tt) in
+    let body = body_clean instances plain m.holder.body h.0.body ports n k (known_ports_placed m.holder.ports m.ports [] h.0.ports h.0.placed tt) in
     let g : Gathered = walk ports n k in
-    let others = bodies_clean modules plain (n + g.declared) (k + g.nodes) rest h.1 in
+    let others = bodies_clean instances plain (n + g.declared) (k + g.nodes) rest h.1 in
     record {
       feeds = from_append g.feeds _ body.feeds others.feeds;
       asyncs = none_then (ports_asyncs m.holder.ports m.ports) _ (ports_none m.holder.ports m.ports h.0.ports) (none_then g.asyncs _ body.asyncs others.asyncs);
@@ -255,5 +256,5 @@ pub no_source : (circuit : Circuit) → has_source circuit ≡ false → NoSourc
 no_source circuit e =
     let modules : List WithPorts = modules_from 0 circuit.modules in
     let plain = modules_plain 0 circuit.modules e in
-    let all = bodies_clean modules plain (all_ports circuit.modules) 0 modules plain in
+    let all = bodies_clean (instance_in modules) (λ target. found_placed target modules plain) (all_ports circuit.modules) 0 modules plain in
     record { feeds = all.feeds; asyncs = ap (λ rest. Cast ∷ rest) all.asyncs }

@@ -18,7 +18,7 @@ use Rattle.fir_tree.specs.declared.stmt.Stmt.TheVariants as stmt
 use Rattle.reset_feeds.specs.declared.ground.Word.TheVariants.{OfUint, OfSint, OfReset, OfAsync}
 use Rattle.reset_feeds.specs.declared.spot.Spot.TheVariants.{Cast, Declared, OfNode}
 use Rattle.reset_feeds.specs.Grounds.{grounds, are_alike}
-use Rattle.reset_feeds.specs.Feeds.{feed, reach, Known, Gathered, WithPorts, stmt_walk, in_turn, element_size, mask_size, memory_count, lines_spots, IsReached, begins, onward}
+use Rattle.reset_feeds.specs.Feeds.{feed, reach, Known, Gathered, WithPorts, stmt_walk, instance_in, in_turn, element_size, mask_size, memory_count, lines_spots, IsReached, begins, onward}
 use Rattle.reset_feeds.specs.Resolved.{resolved, becomes_stmt}
 use Rattle.reset_feeds.proofs.Samples.{place, name, typ, uint, sint, reset, async, vector, bundle, plain, flipped, input, output, ref, part, dot, at, index, literal, op, mux}
 
@@ -58,7 +58,7 @@ abbrev known : Known
 known = (20, reach async (Declared 0 ∷ [])) ∷ (21, reach (uint 1) (Declared 1 ∷ [])) ∷ []
 
 abbrev gathered : List Stmt → Gathered
-gathered body = in_turn (map (stmt_walk []) body) known 2 0
+gathered body = in_turn (map (stmt_walk (instance_in [])) body) known 2 0
 
 --   wire v : Reset[2]
 --   connect v[0], a
@@ -133,7 +133,7 @@ child = record { holder = record { name = name 40; ports = input 30 reset ∷ []
 --   connect c.r, a
 --   connect d.r, u
 -- The port is one place over both instances: it is fed by both.
-instances_share : (in_turn (map (stmt_walk (child ∷ []))
+instances_share : (in_turn (map (stmt_walk (instance_in (child ∷ [])))
     (stmt.Inst (name 25) (name 40) ∷ stmt.Inst (name 26) (name 40) ∷ stmt.Connect (part 25 (dot 30 ∷ [])) (ref 20) ∷ stmt.Connect (part 26 (dot 30 ∷ [])) (ref 21) ∷ [])) known 4 0).feeds
     ≡ feed (Declared 0) (Declared 3) ∷ feed (Declared 1) (Declared 3) ∷ []
 instances_share = grind (arith, common_steps, stmt_lemmas, expr_lemmas, type_lemmas)

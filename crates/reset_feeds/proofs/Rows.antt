@@ -11,7 +11,7 @@ use Rattle.fir_tree.specs.declared.stmt.Stmt.{Stmt, the_lemmas as stmt_lemmas}
 use Rattle.fir_tree.specs.declared.stmt.Stmt.TheVariants as stmt
 use Rattle.reset_feeds.specs.declared.spot.Spot.TheVariants.{Declared}
 use Rattle.reset_feeds.specs.declared.spot.Feeds.{Feeds}
-use Rattle.reset_feeds.specs.Feeds.{feed, bodies_from, modules_from, all_ports}
+use Rattle.reset_feeds.specs.Feeds.{feed, instance_in, bodies_from, modules_from, all_ports}
 use Rattle.reset_feeds.specs.Resolved.{resolved_ports}
 use Rattle.reset_feeds.proofs.Samples.{place, name, typ, uint, sint, reset, async, vector, bundle, plain, flipped, input, output, ref, part, dot, at, literal}
 
@@ -32,7 +32,7 @@ top t = record {
 }
 
 abbrev feeds_of : List Module → Feeds
-feeds_of modules = bodies_from (modules_from 0 modules) (all_ports modules) 0 (modules_from 0 modules)
+feeds_of modules = bodies_from (instance_in (modules_from 0 modules)) (all_ports modules) 0 (modules_from 0 modules)
 
 -- The ports reset, q, a and x have the places 0 to 3, and r has 4; clocks have none. The input a feeds the port reset.
 an_async_feeds : feeds_of (child ∷ top async ∷ [])

@@ -216,16 +216,22 @@ port_spots element mask n mode.Reader = declared_from n 2 ++ element
 port_spots element mask n mode.Writer = declared_from n 2 ++ (element ++ declared_from (n + 2) mask)
 port_spots element mask n mode.ReadWriter = declared_from n 2 ++ (element ++ (Declared (n + 2) ∷ (element ++ declared_from (n + 3) mask)))
 
--- what a port's line has, where the own places of the ports have the numbers from this one on
+-- what a line has, where the own places of its port have the numbers from this one on
+abbrev pub line_spots : List Spot → ℕ → ℕ → MemLine → List Spot
+line_spots element mask n (line.MemPort at m name) = port_spots element mask n m
+line_spots element mask n _ = []
+
+abbrev pub line_count : ℕ → MemLine → ℕ
+line_count mask (line.MemPort at m name) = own_count mask m
+line_count mask _ = 0
+
 abbrev pub lines_spots : List Spot → ℕ → ℕ → List MemLine → List Spot
 lines_spots element mask n [] = []
-lines_spots element mask n (line.MemPort at m name ∷ lines) = port_spots element mask n m ++ lines_spots element mask (n + own_count mask m) lines
-lines_spots element mask n (other ∷ lines) = lines_spots element mask n lines
+lines_spots element mask n (l ∷ lines) = line_spots element mask n l ++ lines_spots element mask (n + line_count mask l) lines
 
 abbrev pub lines_count : ℕ → List MemLine → ℕ
 lines_count mask [] = 0
-lines_count mask (line.MemPort at m name ∷ lines) = own_count mask m + lines_count mask lines
-lines_count mask (other ∷ lines) = lines_count mask lines
+lines_count mask (l ∷ lines) = line_count mask l + lines_count mask lines
 
 abbrev pub element_size : Memory → ℕ
 element_size memory = size (element_of memory)
@@ -256,10 +262,15 @@ pub record WithPorts : Type 0 where
 abbrev pub instance_reach : WithPorts → Reach
 instance_reach m = reach (instance_of m.holder.ports) (flat_map (λ spots. spots) m.ports)
 
-abbrev pub declares_instance : List WithPorts → ℕ → ℕ → Walk
-declares_instance modules name target known n k =
-    let found = option_map instance_reach (find (λ m. m.holder.name.id == target) modules) in
-    record { known = known_with known name found; declared = 0; nodes = 0; feeds = []; asyncs = [] }
+-- what the instances of the module of a name come to: of one name the first counts
+abbrev pub Instances : Type 0
+Instances = ℕ → Option Reach
+
+abbrev pub instance_in : List WithPorts → Instances
+instance_in modules name = option_map instance_reach (find (λ m. m.holder.name.id == name) modules)
+
+abbrev pub declares_instance : Instances → ℕ → ℕ → Walk
+declares_instance instances name target known n k = record { known = known_with known name (instances target); declared = 0; nodes = 0; feeds = []; asyncs = [] }
 
 -- A node has the type of its expression, and places of its own, which the expression feeds.
 abbrev pub named_as : ℕ → Option Reach → Walk
@@ -281,25 +292,25 @@ abbrev pub connects : Expr → Expr → Walk
 connects left right known n k =
     record { known = known; declared = 0; nodes = 0; feeds = connected (reached_by left known) (reached_by right known); asyncs = [] }
 
-abbrev pub of_stmt : List WithPorts → Stmt-F Walk Walk → Walk
-of_stmt modules (Stmt-F.Wire name typ) = declares name.id typ
-of_stmt modules (Stmt-F.Reg name typ clock) = declares name.id typ
-of_stmt modules (Stmt-F.RegReset name typ clock reset init) = declares name.id typ
-of_stmt modules (Stmt-F.Mem memory) = declares_memory memory
-of_stmt modules (Stmt-F.Inst name target) = declares_instance modules name.id target.id
-of_stmt modules (Stmt-F.Node name e) = names_node name.id e
-of_stmt modules (Stmt-F.Connect left right) = connects left right
-of_stmt modules (Stmt-F.When arms other) = and_then (in_turn arms) (in_turn other)
-of_stmt modules _ = nothing
+abbrev pub of_stmt : Instances → Stmt-F Walk Walk → Walk
+of_stmt instances (Stmt-F.Wire name typ) = declares name.id typ
+of_stmt instances (Stmt-F.Reg name typ clock) = declares name.id typ
+of_stmt instances (Stmt-F.RegReset name typ clock reset init) = declares name.id typ
+of_stmt instances (Stmt-F.Mem memory) = declares_memory memory
+of_stmt instances (Stmt-F.Inst name target) = declares_instance instances name.id target.id
+of_stmt instances (Stmt-F.Node name e) = names_node name.id e
+of_stmt instances (Stmt-F.Connect left right) = connects left right
+of_stmt instances (Stmt-F.When arms other) = and_then (in_turn arms) (in_turn other)
+of_stmt instances _ = nothing
 
 abbrev pub of_arm : Arm-F Walk Walk → Walk
 of_arm arm = in_turn arm.body
 
-abbrev pub stmt_walk : List WithPorts → Stmt → Walk
-stmt_walk modules = fold-Stmt Walk Walk (of_stmt modules) of_arm
+abbrev pub stmt_walk : Instances → Stmt → Walk
+stmt_walk instances = fold-Stmt Walk Walk (of_stmt instances) of_arm
 
-abbrev pub arm_walk : List WithPorts → Arm → Walk
-arm_walk modules = fold-Arm Walk Walk (of_stmt modules) of_arm
+abbrev pub arm_walk : Instances → Arm → Walk
+arm_walk instances = fold-Arm Walk Walk (of_stmt instances) of_arm
 
 -- The circuit: the ports of all modules first, then their bodies, each in text order.
 
@@ -328,17 +339,17 @@ ports_asyncs (port ∷ ports) (spots ∷ rest) = asyncs_among (grounds port.typ)
 ports_asyncs _ _ = []
 
 -- the bodies of modules, with places of the text and of nodes from these numbers on
-abbrev pub bodies_from : List WithPorts → ℕ → ℕ → List WithPorts → Feeds
-bodies_from modules n k [] = record { feeds = []; asyncs = [] }
-bodies_from modules n k (m ∷ rest) =
-    let body = in_turn (map (stmt_walk modules) m.holder.body) (known_ports m.holder.ports m.ports []) n k in
-    let others = bodies_from modules (n + body.declared) (k + body.nodes) rest in
+abbrev pub bodies_from : Instances → ℕ → ℕ → List WithPorts → Feeds
+bodies_from instances n k [] = record { feeds = []; asyncs = [] }
+bodies_from instances n k (m ∷ rest) =
+    let body = in_turn (map (stmt_walk instances) m.holder.body) (known_ports m.holder.ports m.ports []) n k in
+    let others = bodies_from instances (n + body.declared) (k + body.nodes) rest in
     record { feeds = body.feeds ++ others.feeds; asyncs = ports_asyncs m.holder.ports m.ports ++ (body.asyncs ++ others.asyncs) }
 
 abbrev pub feeds_in : Circuit → Feeds
 feeds_in circuit =
     let modules = modules_from 0 circuit.modules in
-    let all = bodies_from modules (all_ports circuit.modules) 0 modules in
+    let all = bodies_from (instance_in modules) (all_ports circuit.modules) 0 modules in
     record { feeds = all.feeds; asyncs = Cast ∷ all.asyncs }
 
 -- A chain of feeds leads to the place from an AsyncReset leaf.
