@@ -1,0 +1,14 @@
+pub mod Reaching
+pub mod Leading
+pub mod Blind
+pub mod Once
+pub mod Stays
+pub mod Counts
+pub mod Placed
+pub mod Sourceless
+pub mod Bundled
+pub mod Clean
+pub mod Itself
+mod Samples
+mod Examples
+mod Rows
