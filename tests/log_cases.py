@@ -301,6 +301,17 @@ def by_models():
             yield f"{name}, {cycles:,} cycles", f"{circuit}%stimulus\n{stimulus}", logged(cycles, model(rows))
 
 
+def lengths():
+    """Texts at the limits of their lengths, and past them: a name, the text, the status and what is written."""
+    circuit = FRONT + MAIN + lines('printf(clock, UInt<1>(1), "x")')
+    yield "a joined text over 20,971,520 bytes", " " * 20_971_521, 2, "circuit TooLong 1:1\n"
+    yield "a text without a line for its stimulus", " " * 20_971_520, 2, "circuit NoStimulus 1:1\n"
+    yield "a circuit over 16,777,216 bytes", circuit.ljust(16_777_216, ";") + "\n%stimulus\ncycles 2\n", 2, "circuit TooLong 1:1\n"
+    yield "a circuit of 16,777,216 bytes", circuit.ljust(16_777_215, ";") + "\n%stimulus\ncycles 2\n", 0, "xx\nended 2\n"
+    yield "a stimulus over 4,194,304 bytes", circuit + "%stimulus\n" + "cycles 2\n".ljust(4_194_305), 3, "stimulus TooLong 1:1\n"
+    yield "a stimulus of 4,194,304 bytes", circuit + "%stimulus\n" + "cycles 2\n".ljust(4_194_304), 0, "xx\nended 2\n"
+
+
 # The example: a test of the greatest common divisor, which prints and stops.
 
 
@@ -390,4 +401,6 @@ def faults(program):
         for name, text, wanted in cases:
             for workers in WORKERS:
                 found.append((f"the log of {name}, by {workers} workers", other(run(program, ["log", "--workers", workers, "-"], text), 0, wanted)))
+    for name, text, status, wanted in lengths():
+        found.append((f"the log of {name}", other(run(program, ["log"], text), status, wanted)))
     return [*found, *examples(program), *farm(program)]
