@@ -10,31 +10,9 @@ import tempfile
 import time
 from pathlib import Path
 
-FRONT = "FIRRTL version 3.0.0\ncircuit M :\n  module M :\n    input clock : Clock\n    output out : UInt<32>\n"
+from circuits import mesh, ring
+
 WORKERS = (1, 2, 4, 64)
-
-
-def ring(count):
-    """A ring of registers, each the sum of the one before and its number, whose sum is watched."""
-    lines = [f"    reg r{k} : UInt<32>, clock" for k in range(count)]
-    lines += [f"    connect r{k}, tail(add(r{(k or count) - 1}, UInt<32>({k})), 1)" for k in range(count)]
-    lines += ["    node s0 = r0"] + [f"    node s{k} = tail(add(s{k - 1}, r{k}), 1)" for k in range(1, count)]
-    return FRONT + "\n".join(lines) + f"\n    connect out, s{count - 1}\n"
-
-
-def mesh(side, rounds):
-    """A mesh of registers, each of which mixes its own value with those of two neighbours in so many rounds; one of them is watched."""
-    lines = [f"    reg r{k} : UInt<32>, clock" for k in range(side * side)]
-    for k in range(side * side):
-        row, column = divmod(k, side)
-        left, above = row * side + (column - 1) % side, (row - 1) % side * side + column
-        lines.append(f"    node m{k}x0 = tail(add(r{k}, r{left}), 1)")
-        for i in range(1, rounds):
-            other = f"r{above}" if i % 2 else f"UInt<32>({k + i})"
-            step = f"xor(m{k}x{i - 1}, {other})" if i % 2 else f"tail(add(m{k}x{i - 1}, {other}), 1)"
-            lines.append(f"    node m{k}x{i} = {step}")
-        lines.append(f"    connect r{k}, m{k}x{rounds - 1}")
-    return FRONT + "\n".join(lines) + f"\n    connect out, r{side * side - 1}\n"
 
 
 def taken(program, text, cycles, workers):

@@ -15,6 +15,7 @@ import xml.etree.ElementTree as Tree
 from pathlib import Path
 
 import dump_cases
+import log_cases
 import minute
 import refine_cases
 import state_cases
@@ -290,6 +291,7 @@ def main():
     faults += wave_cases.faults(program)
     faults += dump_cases.faults(program)
     faults += state_cases.faults(program)
+    faults += log_cases.faults(program)
     failed = [(name, fault) for name, fault in faults if fault]
     for name, fault in failed:
         print(f"FAILED {name}: {fault}")

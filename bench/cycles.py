@@ -1,0 +1,205 @@
+"""Prints a table: the time of a cycle by 1, 2 and 4 workers, beside that of another program, and the ratio; with --callgrind the machine instructions of
+a cycle too. Or with --verilog: the time from text to trace, beside that of Icarus Verilog and of Verilator with their builds.
+
+usage: cycles.py PROGRAM [OTHER] [--circuits NAME..] [--workers P..] [--times N] [--seconds S] [--clock] [--callgrind]
+       cycles.py PROGRAM --verilog [--times N] [--most S]
+
+OTHER is the program as it was before. Each figure is the least of N (5) runs, in which both take turns, without what a run of one cycle takes. By one
+worker it is the processors' time, which says more where a machine is busy, and by several the time of the clock; with --clock that for all. Runs have
+as many cycles as take S seconds (1), at most 1,000,000.
+"""
+import argparse
+import hashlib
+import math
+import os
+import re
+import shutil
+import subprocess
+import tempfile
+import time
+from pathlib import Path
+
+from circuits import CIRCUITS, mesh
+
+HERE = Path(__file__).resolve().parent
+MOST = 1_000_000
+RINGS = ("ring256", "ring4096")
+# Circuits of which a Verilog text stands in bench/verilog: what is defined for it.
+VERILOG = {
+    "counter": (CIRCUITS["counter"], "counter.v", ()),
+    "gcd": (CIRCUITS["gcd"], "gcd.v", ()),
+    "ring256": (CIRCUITS["ring256"], "ring.v", ("-DCOUNT=256",)),
+    "mesh of 16 by 16": (lambda: mesh(16, 16), "mesh.v", ("-DSIDE=16", "-DROUNDS=16")),
+}
+
+# Verilator wants loops over registers unrolled.
+UNROLLED = ("--unroll-count", "1024", "--unroll-stmts", "1000000")
+
+
+def used(words, folder=None, text=None, out=None):
+    """Seconds by the clock, and those of the processors, of a command that must not fail. What it writes goes into a file, or nowhere."""
+    before = os.times()
+    began = time.perf_counter()
+    with open(out or os.devnull, "wb") as sink, open(text or os.devnull, "rb") as given:
+        done = subprocess.run(words, stdin=given, stdout=sink, stderr=subprocess.PIPE, cwd=folder)
+    took, after = time.perf_counter() - began, os.times()
+    if done.returncode:
+        raise SystemExit(f"cycles: {words[0]} ended with {done.returncode}: {done.stderr[-500:].decode()}")
+    return took, after.children_user + after.children_system - before.children_user - before.children_system
+
+
+class Room:
+    """A folder with the circuits' texts and what is written."""
+
+    def __init__(self, folder, clock):
+        self.folder, self.clock = Path(folder), clock
+
+    def text(self, name, circuit, cycles):
+        path = self.folder / f"{name}.{cycles}"
+        if not path.exists():
+            path.write_text(f"{circuit}%stimulus\ncycles {cycles}\n")
+        return path
+
+    def seconds(self, program, text, workers):
+        took, processors = used([program, "run", "--workers", str(workers)], text=text, out=self.folder / "trace")
+        return took if self.clock or workers > 1 else processors
+
+    def trace(self):
+        return hashlib.sha256((self.folder / "trace").read_bytes()).digest()
+
+
+def enough(room, program, name, circuit, workers, seconds):
+    """How many cycles take so many seconds."""
+    cycles, start = 100, room.seconds(program, room.text(name, circuit, 1), workers)
+    while True:
+        took = room.seconds(program, room.text(name, circuit, cycles), workers) - start
+        if took > seconds / 8 or cycles == MOST:
+            return max(100, min(MOST, int(cycles * seconds / max(took, 1e-3)) // 100 * 100))
+        cycles = min(MOST, cycles * 8)
+
+
+def cycle(room, programs, name, circuit, cycles, workers, times):
+    """Microseconds of a cycle by each program, the least of so many runs."""
+    texts = room.text(name, circuit, 1), room.text(name, circuit, cycles)
+    least, traces = [[math.inf, math.inf] for _ in programs], set()
+    for _ in range(times):
+        for place, text in enumerate(texts):
+            for program, figures in zip(programs, least):
+                figures[place] = min(figures[place], room.seconds(program, text, workers))
+                traces.add((text, room.trace()))
+    if len(traces) != len(texts):
+        raise SystemExit(f"cycles: the traces of {name} differ")
+    return [max(whole - start, 1e-9) / (cycles - 1) * 1e6 for start, whole in least]
+
+
+def instructions(room, program, name, circuit, few, many):
+    """The machine instructions of a cycle by one worker."""
+    counts = []
+    for cycles in (few, many):
+        words = ["valgrind", "--tool=callgrind", "--callgrind-out-file=/dev/null", program, "run"]
+        with open(room.text(name, circuit, cycles), "rb") as given:
+            done = subprocess.run(words, stdin=given, stdout=subprocess.DEVNULL, stderr=subprocess.PIPE, text=True)
+        counts.append(int(re.search(r"Collected : (\d+)", done.stderr)[1]))
+    return (counts[1] - counts[0]) / (many - few)
+
+
+def mean(ratios):
+    return math.exp(sum(map(math.log, ratios)) / len(ratios)) if ratios else math.nan
+
+
+def table(asked):
+    programs = [str(Path(each).resolve()) for each in (asked.other, asked.program) if each]
+    counted = asked.callgrind and shutil.which("valgrind")
+    if asked.callgrind and not counted:
+        print("cycles: valgrind isn't installed, so no machine instructions are counted")
+    heads = [f"{workers} worker{'s' * (workers > 1)}" for workers in asked.workers] + ["instructions"] * bool(counted)
+    below = f"{'cycles':>10}" + (f"{'before':>10}{'now':>10}{'ratio':>8}" if asked.other else f"{'now':>10}")
+    width = len(below)
+    print(f"processors: {len(os.sched_getaffinity(0))}; microseconds a cycle{', and machine instructions' if counted else ''}")
+    print(f"{'':16}" + "".join(f"{head:>{width}}" for head in heads))
+    print(f"{'circuit':16}" + below * len(heads), flush=True)
+    ratios = {head: [] for head in heads}
+    with tempfile.TemporaryDirectory() as folder:
+        room = Room(folder, asked.clock)
+        for name in asked.circuits:
+            circuit = CIRCUITS[name]()
+            print(f"{name:16}", end="", flush=True)
+            for head, workers in zip(heads, [*asked.workers, None]):
+                if workers:
+                    cycles = enough(room, programs[0], name, circuit, workers, asked.seconds)
+                    figures = cycle(room, programs, name, circuit, cycles, workers, asked.times)
+                else:
+                    cycles, figures = 100, [instructions(room, each, name, circuit, 20, 120) for each in programs]
+                print(f"{cycles:10,}" + "".join(f"{figure:10.2f}" if workers else f"{figure:10,.0f}" for figure in figures), end="", flush=True)
+                if asked.other:
+                    print(f"{figures[0] / figures[1]:8.2f}", end="", flush=True)
+                    ratios[head] += [] if name in RINGS else [figures[0] / figures[1]]
+            print()
+    if asked.other:
+        # the mean is geometric
+        means = "".join(f"{mean(each):{width}.2f}" for each in ratios.values())
+        print(f"{'mean but rings':16}{means}")
+
+
+def least(times, *words, **how):
+    runs = [used(*words, **how) for _ in range(times)]
+    return min(run[1] for run in runs)
+
+
+def beside_verilog(asked):
+    """From text to trace, builds included: seconds of the processors for 1,000 and 1,000,000 cycles, and from how many on another one is quicker."""
+    program, verilog = str(Path(asked.program).resolve()), HERE / "verilog"
+    tools = [tool for tool in ("iverilog", "verilator") if shutil.which(tool)]
+    print("\n".join(f"cycles: {tool} isn't installed" for tool in ("iverilog", "verilator") if tool not in tools) or "seconds of the processors, from text to trace")
+    print(f"{'circuit':20}{'by':>12}{'build':>10}{'us a cycle':>12}{'1,000':>10}{'1,000,000':>12}{'quicker from':>14}")
+    for name, (circuit, file, defined) in VERILOG.items():
+        with tempfile.TemporaryDirectory() as folder:
+            room, figures = Path(folder), {}
+            for tool in ("firsim", *tools):
+                build, run = 0.0, None
+                if tool == "iverilog":
+                    build = least(asked.times, ["iverilog", "-g2005", *defined, "-o", room / "icarus", verilog / file, verilog / "trace.v"])
+                    run = lambda cycles: (["vvp", "-n", room / "icarus", f"+cycles={cycles}"], None)
+                elif tool == "verilator":
+                    words = ["verilator", "--cc", "--exe", "--build", "-O3", *UNROLLED, "-CFLAGS", "-O2", "--top-module", "bench", "--Mdir", room / "made", *defined]
+                    build = math.inf
+                    for _ in range(asked.times):
+                        shutil.rmtree(room / "made", ignore_errors=True)
+                        build = min(build, used([*words, verilog / file, verilog / "trace.cpp"])[1])
+                    run = lambda cycles: ([room / "made/Vbench", str(cycles)], None)
+                else:
+                    run = lambda cycles: ([program, "run"], Room(folder, False).text("text", circuit(), cycles))
+                took = {}
+                for cycles in (1, 1_000, 20_000, MOST):
+                    if cycles == MOST and took[20_000] * 50 > asked.most:
+                        took[cycles] = took[1] + (took[20_000] - took[1]) * 50  # told as `about`
+                        continue
+                    words, text = run(cycles)
+                    took[cycles] = least(1 if cycles == MOST else asked.times, words, text=text, out=room / f"{tool}.{cycles}")
+                    if tool != "firsim" and (room / f"{tool}.{cycles}").read_bytes() != (room / f"firsim.{cycles}").read_bytes():
+                        raise SystemExit(f"cycles: the trace of {name} by {tool} differs")
+                each = (took[MOST] - took[1]) / (MOST - 1) if (room / f"{tool}.{MOST}").exists() else (took[20_000] - took[1]) / 19_999
+                figures[tool] = build + took[1], each
+                about = "" if (room / f"{tool}.{MOST}").exists() else "about "
+                quicker = ""
+                if tool != "firsim" and each < figures["firsim"][1]:
+                    quicker = f"{max(1, (figures[tool][0] - figures['firsim'][0]) / (figures['firsim'][1] - each)):,.0f}"
+                print(f"{name:20}{tool:>12}{build:10.2f}{each * 1e6:12.2f}{build + took[1_000]:10.2f}{about + format(build + took[MOST], '.1f'):>12}{quicker or ('never' if tool != 'firsim' else ''):>14}", flush=True)
+
+
+def main():
+    words = argparse.ArgumentParser(usage=__doc__.split("usage: ")[1].split("\n\n")[0].replace("\n      ", "\n"))
+    words.add_argument("program")
+    words.add_argument("other", nargs="?")
+    words.add_argument("--circuits", nargs="+", choices=list(CIRCUITS), default=list(CIRCUITS))
+    words.add_argument("--workers", nargs="+", type=int, default=[1, 2, 4])
+    words.add_argument("--times", type=int, default=5)
+    words.add_argument("--seconds", type=float, default=1)
+    words.add_argument("--most", type=float, default=120)
+    for flag in ("--clock", "--callgrind", "--verilog"):
+        words.add_argument(flag, action="store_true")
+    asked = words.parse_args()
+    beside_verilog(asked) if asked.verilog else table(asked)
+
+
+main()
