@@ -2,6 +2,7 @@
 
 mod arranging;
 mod codes;
+mod sharing;
 mod steps;
 mod telling;
 mod words;

@@ -20,4 +20,3 @@ pub mod Filtered
 pub mod Told
 pub mod Framing
 pub mod Rooming
-pub mod Shared

@@ -1,4 +1,4 @@
--- The nodes of an expression and of a driver.
+-- The nodes of the largest driver of a part.
 use Rattle.std.proofs.Common.{◌≡◌, ℕ, ◌+◌, ◌<◌, ◌≤◌, max, List, [], ◌∷◌, ◌++◌, map, flat_map, length, slice_get, slice_index, Option, Some, None, Contains, sum, refl, sym, ap, ◌∙◌, arith}
 use Rattle.std.specs.Prelude.{filter_map}
 use Rattle.std.proofs.lemmas.Grind.{common_steps}
@@ -20,41 +20,6 @@ use Rattle.part_compile.specs.SlotBounds.{greatest, nodes_of, nodes_of_reset, as
 use Rattle.part_compile.proofs.Greatest.{greatest_within}
 use Rattle.part_compile.proofs.Walking.{needed_at}
 
-pub nodes-Op : (prim : PrimOp) (items : List Ground) (params : List ℕ) → nodes (Op prim items params) ≡ 1 + sum (map nodes items)
-nodes-Op prim items params = grind (arith, common_steps, the_lemmas, maps)
-
-pub nodes-Mux : (items : List Ground) → nodes (Mux items) ≡ 1 + sum (map nodes items)
-nodes-Mux items = grind (arith, common_steps, the_lemmas, maps)
-
-pub nodes-Fit : (kind : Kind) (width : ℕ) (items : List Ground) → nodes (Fit kind width items) ≡ 1 + sum (map nodes items)
-nodes-Fit kind width items = grind (arith, common_steps, the_lemmas, maps)
-
-pub nodes-Load : (m k : ℕ) (items : List Ground) → nodes (Load m k items) ≡ 1 + sum (map nodes items)
-nodes-Load m k items = grind (arith, common_steps, the_lemmas, maps)
-
-pub nodes-Select : (index items : List Ground) → nodes (Select index items) ≡ 1 + (sum (map nodes index) + sum (map nodes items))
-nodes-Select index items = grind (arith, common_steps, the_lemmas, maps)
-
--- what isn't driven keeps its value
-pub driven_more : (x : ℕ) (o : Option Ground) → nodes_of o ≤ nodes (driven_ground x o)
-driven_more x (Some g) = omega arith
-driven_more x None = omega arith
-
--- a register by its number
-pub register_counted : (net : Net) (o : Option NetRegister) (register : NetRegister) (n : ℕ) → o ≡ Some register → n ≤ nodes_of (driver_of net register.leaf) + nodes_of_reset register.reset
-    → n ≤ greatest (nodes_of_register net o)
-register_counted net None register n e le = absurd (none_some e)
-  where
-    none_some : None ≡ Some register → ⊥
-    none_some e = cc
-register_counted net (Some r) register n e le =
-    let more = driven_more register.leaf (driver_of net register.leaf) in
-    let same : register_nodes net r ≡ register_nodes net register = ap (register_nodes net) (some_same e) in
-    omega (arith, le, more, same)
-  where
-    some_same : Some r ≡ Some register → r ≡ register
-    some_same e = cc
-
 -- a sink of a part by its number
 pub sink_counted : (net : Net) (watch : List ℕ) (part : CutPart) (numbers : List ℕ) (i : ℕ) (sink : Sink) (n : ℕ) → numbers ≡ part.sinks → i < length numbers → slice_get (sinks net watch) (slice_index numbers i) ≡ Some sink
     → n ≤ greatest (sink_nodes net sink) → n ≤ greatest (sinks_nodes net watch part)
@@ -68,7 +33,7 @@ sink_counted net watch part numbers i sink n same lt there le =
     omega (arith, le, all, these)
 
 -- the largest driver of a part is one of its assignments or of its sinks
-pub most_counted : (net : Net) (watch : List ℕ) (part : CutPart) (a b n : ℕ) → a ≤ greatest (map (assignment_nodes net) part.assignments) → b ≤ greatest (sinks_nodes net watch part) → n ≡ max a b
+pub most_counted : (net : Net) (watch : List ℕ) (part : CutPart) (a b n : ℕ) → a ≤ greatest (map (assignment_nodes net) part.assignments) → b ≤ greatest (sinks_nodes net watch part) → n ≡ max b a
     → n ≤ most_nodes net watch part
 most_counted net watch part a b n x y e =
     let xs = map (assignment_nodes net) part.assignments in

@@ -1,6 +1,6 @@
 //! Nodes of drivers, as far as a `u32` counts.
 
-ghost use Rattle.std.specs.Prelude.{◌≤◌, map, sum};
+ghost use Rattle.std.specs.Prelude.{◌≡◌, ◌≤◌, map, sum};
 ghost use Rattle.ground_net.specs.Reads.{driver_of};
 ghost use Rattle.cone_cutter.specs.Rows.{sink_of};
 ghost use Rattle.code_emit.specs.Counts.{nodes};
