@@ -1,22 +1,11 @@
 -- The nodes of the largest driver of a part.
-use Rattle.std.proofs.Common.{◌≡◌, ℕ, ◌+◌, ◌<◌, ◌≤◌, max, List, [], ◌∷◌, ◌++◌, map, flat_map, length, slice_get, slice_index, Option, Some, None, Contains, sum, refl, sym, ap, ◌∙◌, arith}
+use Rattle.std.proofs.Common.{◌≡◌, ℕ, ◌<◌, ◌≤◌, max, List, ◌++◌, map, flat_map, length, slice_get, slice_index, Some, ap, arith}
 use Rattle.std.specs.Prelude.{filter_map}
-use Rattle.std.proofs.lemmas.Grind.{common_steps}
 use Rattle.std.proofs.lemmas.List.Elements.{Contains-append_left, Contains-append_right}
-use Rattle.bit_words.specs.declared.value.Kind.{Kind}
-use Rattle.prim_ops.specs.declared.operation.PrimOp.{PrimOp}
-use Rattle.ground_net.specs.declared.ground.Ground.{Ground, the_lemmas}
-use Rattle.ground_net.specs.declared.ground.Ground.TheVariants.{Leaf, Op, Mux, Select, Load, Fit}
 use Rattle.ground_net.specs.declared.net.Net.{Net}
-use Rattle.ground_net.specs.declared.net.NetRegister.{NetRegister}
 use Rattle.ground_net.specs.declared.net.CutPart.{CutPart}
-use Rattle.ground_net.specs.Reads.{driver_of}
-use Rattle.ground_net.specs.Cones.{Sink, A_register, sinks}
-use Rattle.ground_net.proofs.Layers.{maps}
-use Rattle.code_emit.specs.Counts.{nodes}
-use Rattle.code_registers.specs.Nexts.{driven_ground}
-use Rattle.partition_code.specs.Codes.{sinks_of_part}
-use Rattle.part_compile.specs.SlotBounds.{greatest, nodes_of, nodes_of_reset, assignment_nodes, register_nodes, nodes_of_register, sink_nodes, sinks_nodes, most_nodes}
+use Rattle.ground_net.specs.Cones.{Sink, sinks}
+use Rattle.part_compile.specs.SlotBounds.{greatest, assignment_nodes, sink_nodes, sinks_nodes, most_nodes}
 use Rattle.part_compile.proofs.Greatest.{greatest_within}
 use Rattle.part_compile.proofs.Walking.{needed_at}
 

@@ -1,4 +1,4 @@
-use Rattle.std.proofs.Common.{◌≡◌, ◌<◌, map, length, ap, arith}
+use Rattle.std.proofs.Common.{map, ap, arith}
 use Rattle.part_compile.specs.SlotBounds.{greatest, assignment_nodes}
 use Rattle.part_compile.proofs.Greatest.{mapped_greatest}
 use Rattle.part_compile.proofs.node_count.largest_assignment.Goals as goal

@@ -1,4 +1,4 @@
-use Rattle.std.proofs.Common.{◌≡◌, ◌+◌, ◌-◌, ◌<◌, ◌≤◌, length, slice_index, sym, subst, ap, ◌∙◌, arith}
+use Rattle.std.proofs.Common.{◌≡◌, ◌+◌, ◌-◌, ◌<◌, length, slice_index, sym, subst, ap, arith}
 use Rattle.part_compile.proofs.Walking.{CountsAt, counted_live, more_live, stepped}
 use Rattle.part_compile.proofs.room.most_live.Goals as goal
 

@@ -1,4 +1,4 @@
-use Rattle.std.proofs.Common.{subst, arith}
+use Rattle.std.proofs.Common.{subst}
 use Rattle.part_compile.specs.Counts.{CountsLive}
 use Rattle.part_compile.specs.Rooms.{read_by_sinks}
 use Rattle.part_compile.proofs.room.room_of.Goals as goal
