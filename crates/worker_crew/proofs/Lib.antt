@@ -1,3 +1,3 @@
 pub mod Crews
 pub mod Numbers
-pub mod Gridded
+pub mod Joining

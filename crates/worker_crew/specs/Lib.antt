@@ -3,4 +3,4 @@ pub mod Crew
 pub mod Numbers
 pub mod Threads
 pub mod Frames
-pub mod Grids
+pub mod Joins

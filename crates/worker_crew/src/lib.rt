@@ -8,9 +8,9 @@
 mod collect;
 mod crew;
 mod crowd;
-mod grid;
 mod hire;
 mod limit;
+mod rows;
 mod run;
 
 pub use limit::ThreadLimit;

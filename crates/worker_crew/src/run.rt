@@ -1,6 +1,7 @@
 //! The whole epoch.
 
-ghost use Rattle.std.specs.Prelude.{◌≡◌, ℕ, ◌+◌, ◌*◌, ◌^◌, ◌<◌, ◌≤◌, length, vec_len, vec_capacity, IfOk};
+ghost use Rattle.std.specs.Prelude.{◌≡◌, ℕ, ◌+◌, ◌*◌, ◌^◌, ◌<◌, ◌≤◌, length, slice_index_or, vec_len, vec_capacity, IfOk};
+ghost use Rattle.flat_code.specs.declared.code.Code.{Code as Cod};
 ghost use Rattle.phase_core.specs.Script.{values};
 ghost use Rattle.phase_core.specs.Sound.{view};
 ghost use Rattle.register_table.specs.Shown.{ComesFrom, closed_script};
@@ -8,17 +9,17 @@ ghost use Rattle.worker_crew.specs.Crew.{task_of, Fresh, Done, Places, Parts};
 ghost use Rattle.crew_workers.specs.Turns.{Serves};
 ghost use Rattle.worker_crew.specs.Frames.{Frames};
 ghost use Rattle.worker_crew.specs.Numbers.{Manned};
-ghost use Rattle.worker_crew.specs.Grids.{Wide};
+ghost use Rattle.worker_crew.specs.Joins.{AreInTurn};
 ghost use Rattle.crew_workers.specs.Scripts.{script_of, Runs, Outputs};
 ghost use Rattle.crew_workers.specs.Standing.{Each};
 
 use crate::collect::{place_all, unite_all};
 use crate::crew::{Orders, Shared};
 use crate::crowd::{Hired, Job, Rooms, Roster, run_in};
-use crate::grid::{fill_all, new_grid};
 use crate::hire::hire_all;
 use crate::limit::ThreadLimit;
-use bit_words::{List, Row, Rows};
+use crate::rows::{are_in_turn, join_rows};
+use bit_words::{List, Rows};
 use crew_workers::{Gate, Stint, Worker, longest_frame, most_published, row_width};
 use flat_code::Code;
 use register_table::{Closed, Plan, Post, RegisterTable};
@@ -106,39 +107,63 @@ fn frame_room(codes: &[Code]) -> usize
     longest_frame(codes)
 }
 
-// The outputs of all codes at their positions.
-fn fill_rows<N: Plan>(shared: &Shared<N>, words: &[u64], parts: &[Rows], grid: &mut [Row])
+// The rows of an epoch of one code whose positions are 0, 1, 2 and so on: its own.
+fn own_rows<N: Plan>(shared: &Shared<N>, words: &[u64], mut parts: Vec<Rows>) -> Rows
     requires script { N.script ≡ script_of shared.now.codes.now words.now shared.now.rows.now }
-    requires runs { Runs shared.now.codes.now words.now shared.now.rows.now }
-    requires all { length parts.now ≡ length shared.now.codes.now }
-    requires parts { Parts N.script (task_of shared.now) parts.now 0 }
-    requires many { length grid.old ≡ length shared.now.rows.now }
-    requires wide { Wide shared.now.codes.now grid.old }
-    ensures many { length grid.new ≡ length grid.old }
-    ensures outputs { Outputs (script_of shared.now.codes.now words.now shared.now.rows.now) shared.now.codes.now shared.now.rows.now grid.new (length shared.now.rows.now) }
-{
-    // Only the contract speaks of the words.
-    let _ = words;
-    fill_all(shared.codes, parts, grid);
-}
-
-// The rows of the epoch.
-fn output_rows<N: Plan>(
-    shared: &Shared<N>,
-    words: &[u64],
-    parts: &[Rows],
-    mut grid: Vec<Row>,
-) -> Rows
-    requires script { N.script ≡ script_of shared.now.codes.now words.now shared.now.rows.now }
-    requires runs { Runs shared.now.codes.now words.now shared.now.rows.now }
-    requires all { length parts.now ≡ length shared.now.codes.now }
-    requires parts { Parts N.script (task_of shared.now) parts.now 0 }
-    requires many { length grid.items ≡ length shared.now.rows.now }
-    requires wide { Wide shared.now.codes.now grid.items }
+    requires one { length shared.now.codes.now ≡ 1 }
+    requires in_turn { (d : Cod) → AreInTurn (slice_index_or shared.now.codes.now 0 d).positions }
+    requires all { vec_len parts ≡ length shared.now.codes.now }
+    requires parts { Parts N.script (task_of shared.now) parts.items 0 }
     ensures { Outputs (script_of shared.now.codes.now words.now shared.now.rows.now) shared.now.codes.now shared.now.rows.now result (length shared.now.rows.now) }
 {
-    fill_rows(shared, words, parts, grid.as_mut_slice());
-    List::from_vec(grid)
+    // Only the contract speaks of the codes and of the words.
+    let _ = shared;
+    let _ = words;
+    let Some(rows) = parts.pop() else {
+        unreachable!();
+    };
+    rows
+}
+
+// The rows of an epoch, joined cycle by cycle.
+fn joined_rows<N: Plan>(
+    alloc: Global,
+    shared: &Shared<N>,
+    words: &[u64],
+    parts: &mut [Rows],
+) -> Result<Rows, AllocError>
+    requires script { N.script ≡ script_of shared.now.codes.now words.now shared.now.rows.now }
+    requires runs { Runs shared.now.codes.now words.now shared.now.rows.now }
+    requires all { length parts.old ≡ length shared.now.codes.now }
+    requires parts { Parts N.script (task_of shared.now) parts.old 0 }
+    ensures { IfOk result (λ rows. Outputs (script_of shared.now.codes.now words.now shared.now.rows.now) shared.now.codes.now shared.now.rows.now rows (length shared.now.rows.now)) }
+{
+    let width = row_width(shared.codes, words, shared.rows);
+    let rows = join_rows(alloc, shared.codes, parts, shared.rows.len(), width)?;
+    Ok(rows)
+}
+
+// The rows of the epoch. No two values of one output are held at a time but those of one cycle.
+fn output_rows<N: Plan>(
+    alloc: Global,
+    shared: &Shared<N>,
+    words: &[u64],
+    mut parts: Vec<Rows>,
+) -> Result<Rows, AllocError>
+    requires script { N.script ≡ script_of shared.now.codes.now words.now shared.now.rows.now }
+    requires runs { Runs shared.now.codes.now words.now shared.now.rows.now }
+    requires all { vec_len parts ≡ length shared.now.codes.now }
+    requires parts { Parts N.script (task_of shared.now) parts.items 0 }
+    ensures { IfOk result (λ rows. Outputs (script_of shared.now.codes.now words.now shared.now.rows.now) shared.now.codes.now shared.now.rows.now rows (length shared.now.rows.now)) }
+{
+    let codes = shared.codes;
+    if codes.len() == 1 {
+        let code = &codes[0];
+        if are_in_turn(code.positions()) {
+            return Ok(own_rows(shared, words, parts));
+        }
+    }
+    joined_rows(alloc, shared, words, parts.as_mut_slice())
 }
 
 // The workers of all codes, with the memory that they need.
@@ -271,8 +296,6 @@ fn named_epoch<'a, N: Plan + Send + Sync, R: Threads + Wait + Sync, G: Gate + Sy
     let hired = hire_crew(alloc, &shared, words, post)?;
     let places = empty_places(alloc, &shared)?;
     let mut parts = empty_parts(alloc, many)?;
-    let width = row_width(codes, words, rows);
-    let grid = new_grid(alloc, codes, rows.len(), width)?;
     let mut last = Vec::from_elem(alloc, 0u64, words.len())?;
     let starts = start_words(alloc, many)?;
     let orders = orders_of(machine, &shared, starts.as_slice());
@@ -283,7 +306,7 @@ fn named_epoch<'a, N: Plan + Send + Sync, R: Threads + Wait + Sync, G: Gate + Sy
     let done = in_threads(machine.rt, job);
     let places = place_all(&shared, done, places);
     let post = unite_all(&shared, places, &mut parts);
-    let outputs = output_rows(&shared, words, parts.as_slice(), grid);
+    let outputs = output_rows(alloc, &shared, words, parts)?;
     let closed = table.finish(post, last.as_mut_slice());
     Ok(Epoch {
         words: List::from_vec(last),
