@@ -8,3 +8,9 @@ mod Counting
 mod Paths
 mod Measured
 mod Indexed
+mod Alike
+mod Walking
+mod Looking
+mod Accepted
+mod Memories
+mod Few

@@ -35,7 +35,7 @@ call_some name target (A_memory memory) e = cc
 call_some name target (An_instance t) e = ap (λ k. record { name = name; target = k } ∷ []) (some_same e)
 call_some name target (A_node expr) e = cc
 
-call_none : (name : ℕ) (sort : Sort) → target_in sort ≡ None → call_of name sort ≡ []
+pub call_none : (name : ℕ) (sort : Sort) → target_in sort ≡ None → call_of name sort ≡ []
 call_none name An_input e = refl
 call_none name An_output e = refl
 call_none name A_wire e = refl
