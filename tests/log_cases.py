@@ -395,6 +395,13 @@ def farm(program):
             yield f"docs/FARM.md gives {status} for a test: {name}", None if (done.returncode, done.stdout) == (status, "") else f"status {done.returncode}"
 
 
+def unwritten(program):
+    """Why a log that can't be written doesn't end with status 5, or none."""
+    with open("/dev/full", "wb") as full:
+        done = subprocess.run([program, "log"], input=stopping(7).encode(), stdout=full, stderr=subprocess.PIPE, timeout=PATIENCE)
+    return None if (done.returncode, done.stderr) == (5, b"") else f"status {done.returncode}, {done.stderr[:100]!r}"
+
+
 def faults(program):
     found = []
     for cases in (stopped_counters(), many_values(), nothing_printed(), standing_twice(), by_models()):
@@ -403,4 +410,5 @@ def faults(program):
                 found.append((f"the log of {name}, by {workers} workers", other(run(program, ["log", "--workers", workers, "-"], text), 0, wanted)))
     for name, text, status, wanted in lengths():
         found.append((f"the log of {name}", other(run(program, ["log"], text), status, wanted)))
+    found.append(("a log that can't be written", unwritten(program)))
     return [*found, *examples(program), *farm(program)]
