@@ -16,7 +16,7 @@ pub mod run;
 pub mod running;
 pub mod summary;
 pub mod trace_summary;
-mod trace_text;
+pub mod trace_text;
 pub mod writing;
 
 pub use crew::{codes_of, watched_numbers};
@@ -26,5 +26,6 @@ pub use row_texts::{Spot, Teller};
 pub use run::{Held, Run};
 pub use running::{simulate, simulate_cut, simulate_within};
 pub use summary::summarize;
+pub use trace_text::{TraceText, names_of};
 pub use worker_crew::ThreadLimit;
 pub use writing::{Course, epoch_of, write_run};

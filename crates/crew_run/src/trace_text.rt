@@ -7,12 +7,13 @@ use bit_words::{List, Row, Text};
 use ground_net::Leaf;
 use row_texts::{Spot, Teller};
 use std::alloc::{AllocError, Global};
-use trace_print::{header, trace_line};
+use trace_print::{header, push_trace_line};
 
 /// The trace of leaves of these names: their names, and then a line for each cycle with its number and their values.
 #[derive(Drop)]
-pub(crate) struct TraceText {
-    pub(crate) names: List<Text>,
+pub struct TraceText {
+    /// The names of the leaves.
+    pub names: List<Text>,
 }
 
 impl Teller for TraceText {
@@ -24,15 +25,15 @@ impl Teller for TraceText {
         header(alloc, &self.names)
     }
 
-    fn row(
+    fn push_row(
         &self,
-        alloc: Global,
+        text: &mut Vec<u8>,
         cycle: u64,
         before: Option<&Row>,
         row: &Row,
-    ) -> Result<Vec<u8>, AllocError> {
+    ) -> Result<(), AllocError> {
         let _ = before;
-        trace_line(alloc, cycle, row)
+        push_trace_line(text, cycle, row)
     }
 
     fn ends(&self, row: &Row) -> bool {
@@ -47,11 +48,7 @@ impl Teller for TraceText {
 }
 
 /// The names of the leaves of these numbers.
-pub(crate) fn names_of(
-    alloc: Global,
-    leaves: &[Leaf],
-    watch: &[u32],
-) -> Result<List<Text>, AllocError>
+pub fn names_of(alloc: Global, leaves: &[Leaf], watch: &[u32]) -> Result<List<Text>, AllocError>
     requires { All (λ x. x < length leaves.now) watch.now }
     ensures { IfOk result (λ names. names ≡ names_at leaves.now watch.now) }
 {
