@@ -9,7 +9,6 @@ mod feeding;
 pub mod resuming;
 pub mod saving;
 pub mod starting;
-mod tracing;
 
 pub use feeding::Resumed;
 pub use resuming::resume;

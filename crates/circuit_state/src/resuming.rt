@@ -19,10 +19,9 @@ ghost use Rattle.state_texts.specs.Texts.{IsResumedText};
 ghost use Rattle.circuit_state.specs.Going.{all_given_behind, AreTablesFrom};
 
 use crate::feeding::Resumed;
-use crate::tracing::{NamedTrace, names_of};
 use bit_words::List;
 use circuit_run::RunFault;
-use crew_run::{Course, Held, Host, Plan, Run, epoch_of, write_run};
+use crew_run::{Course, Held, Host, Plan, Run, TraceText, epoch_of, names_of, write_run};
 use crew_workers::Gate;
 use register_table::Closed;
 use shelf_io::Sink;
@@ -80,7 +79,7 @@ pub fn resume<R: Threads + Wait + Sync, G: Gate + Sync, K: Sink>(
     };
     let course = Course {
         feed: &feed,
-        teller: &NamedTrace { names },
+        teller: &TraceText { names },
         most: epoch_of(plan.watch.len()),
     };
     write_run(alloc, host, &mut run, &course, sink)
