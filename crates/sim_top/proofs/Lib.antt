@@ -7,3 +7,4 @@ pub mod Naming
 pub mod Replying
 pub mod EmptyText
 pub mod Apart
+mod Small
