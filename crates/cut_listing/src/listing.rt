@@ -1,6 +1,6 @@
 //! The listing of a circuit's cut.
 
-ghost use Rattle.std.specs.Prelude.{◌≡◌, ℕ, ◌<◌, ◌≤◌, ◌^◌, List, length, map, IfOk};
+ghost use Rattle.std.specs.Prelude.{◌≡◌, ◌<◌, ◌≤◌, ◌^◌, length, map, IfOk};
 ghost use Rattle.fir_tree.specs.LeafNames.{Texts};
 ghost use Rattle.fir_meaning.specs.Components.{Design};
 ghost use Rattle.ground_net.specs.Cones.{sinks};
@@ -11,16 +11,11 @@ ghost use Rattle.cut_listing.specs.CircuitCuts.{watch, IsCutText};
 
 use crate::cut_print::cut_text;
 use cone_cutter::cut;
-use ground_net::{Net, Ordered, PortLeaf, Ports};
+use ground_net::{Ordered, PortLeaf, Ports};
 use std::alloc::{AllocError, Global};
 
-/// There are fewer leaves and sinks than this.
-const NUMBERS: usize = 4_294_967_296;
-
 /// The listing of the cut of a circuit's net into 1 to 64 partitions, where the ports are the net's: a line for each partition, and
-/// one for all. Main's watched leaves, the registers and the memories are its sinks.
-///
-/// More leaves or sinks than a `u32` numbers are a want of memory.
+/// one for all. Main's watched leaves, the registers and the memories are its sinks, and a `u32` numbers them and the leaves.
 pub fn circuit_cut(
     alloc: Global,
     ordered: &Ordered,
@@ -31,23 +26,13 @@ pub fn circuit_cut(
     requires seen { ports.now.watched ≡ watched ordered.now.net }
     requires some { 0 < workers }
     requires most { workers ≤ 64 }
+    requires few { length ordered.now.net.leaves < 2 ^ 32 }
+    requires few_sinks { length (sinks ordered.now.net (watch ordered.now.net)) < 2 ^ 32 }
     ensures { (texts : Texts) (design : Design) → Serves texts design ordered.now.net → IfOk result (λ bytes. IsCutText texts design workers bytes.items) }
 {
-    let sinks = most_sinks(&ordered.net, ports.watched.len());
-    if ordered.net.leaves.len() >= NUMBERS || sinks >= NUMBERS {
-        return Err(AllocError);
-    }
     let watch = numbers_of(alloc, ports.watched.as_slice())?;
     let parts = cut(alloc, ordered, watch.as_slice(), workers)?;
     Ok(cut_text(alloc, &parts)?)
-}
-
-/// A net of which so many leaves are watched has at most this many sinks.
-fn most_sinks(net: &Net, watched: usize) -> usize
-    ensures { result < 2 ^ 32 → (watch : List ℕ) → length watch ≤ watched → length (sinks net.now watch) ≤ result }
-{
-    let state = net.registers.len().saturating_add(net.memories.len());
-    watched.saturating_add(state)
 }
 
 /// The numbers of leaves of ports.

@@ -6,3 +6,4 @@ pub mod Carrying
 pub mod EmptyText
 pub mod Sound
 pub mod Apart
+mod Small

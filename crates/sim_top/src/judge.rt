@@ -31,6 +31,7 @@ use fir_tree::Fitted;
 use place_text::{Place, TextPart, fault_line};
 use refine_listing::circuit_refine;
 use sim_engine::{Built, CIRCUIT_LIMIT, CircuitFault, compile_text};
+use size_laws::laws::accepted_nets_are_small;
 use snapshot_text::{Snapshot, StateFault, read_state};
 use std::alloc::{AllocError, Global};
 use stimulus::{StimFault, Stimulus, read_stimulus};
@@ -244,6 +245,7 @@ fn divide(alloc: Global, built: &Built, workers: u32) -> Result<Reply, AllocErro
     requires most { workers ≤ 64 }
     ensures { IfOk result (λ r. (r.status ≡ 0) × IsCutText built.now.fitted.checked.resolved.names (design_of built.now.fitted) workers r.bytes.items) }
 {
+    accepted_nets_are_small();
     Ok(Reply {
         status: 0,
         bytes: circuit_cut(alloc, &built.ordered, &built.ports, workers)?,
