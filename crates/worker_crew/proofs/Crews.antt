@@ -1,5 +1,5 @@
 -- Lists of workers.
-use Rattle.std.proofs.Common.{◌≡◌, ◌≢◌, ℕ, zero, suc, ◌+◌, ◌*◌, ◌<◌, ◌≤◌, List, [], ◌∷◌, ◌++◌, length, get_or, set, get_or-set_same, get_or-set_other, length-set, sym, refl, ap, ◌∙◌, subst, ⊎_elim, arith}
+use Rattle.std.proofs.Common.{◌≡◌, ◌≢◌, ℕ, zero, suc, ◌+◌, ◌*◌, ◌<◌, List, [], ◌∷◌, ◌++◌, length, get_or, set, get_or-set_same, get_or-set_other, sym, ap, ◌∙◌, subst, ⊎_elim, arith}
 use Rattle.register_table.specs.declared.plan.Plan.{Ghosts}
 use Rattle.register_table.specs.declared.table.RegisterTable.{RegisterTable}
 use Rattle.crew_workers.specs.declared.worker.Worker.{Worker}

@@ -1,6 +1,5 @@
 -- Rows that are joined cycle by cycle.
-use Rattle.std.proofs.Common.{◌≡◌, ◌≢◌, ℕ, ◌+◌, ◌<◌, ◌≤◌, ◌⊎◌, inl, inr, ⊎_elim, List, [], ◌∷◌, ◌++◌, length, get_or, set, get_or-set_other, length-set, Some, refl, sym, ap, ◌∙◌, subst, arith, lt_of_not-le}
-use Rattle.std.specs.Prelude.{slice_get, Contains}
+use Rattle.std.proofs.Common.{◌≡◌, ℕ, ◌+◌, ◌<◌, ◌≤◌, ◌⊎◌, inl, inr, ⊎_elim, List, [], ◌∷◌, ◌++◌, length, get_or, set, get_or-set_other, length-set, sym, ap, ◌∙◌, subst, arith, lt_of_not-le}
 use Rattle.std.proofs.lemmas.List.{get_or_default}
 use Rattle.std.proofs.lemmas.Option.{slice_get-get_or}
 use native.Mathlib.Decide.{ℕ_discrete, dec_le}
@@ -11,30 +10,12 @@ use Rattle.phase_core.specs.Script.{values}
 use Rattle.flat_code.specs.declared.code.Code.{Code}
 use Rattle.flat_code.specs.Codes.{outputs_by}
 use Rattle.crew_workers.specs.Codes.{row_at}
-use Rattle.crew_workers.specs.Places.{HasPlaces, OwnPlaces}
+use Rattle.crew_workers.specs.Places.{HasPlaces}
 use Rattle.crew_workers.specs.Scripts.{Outputs}
-use Rattle.crew_workers.specs.Spreads.{Placed}
 use Rattle.crew_workers.proofs.Rows.{outputs_many}
 use Rattle.crew_workers.proofs.Spreads.{first_of, last_of, length_push}
 use Rattle.worker_crew.specs.Crew.{Task, Parts}
-use Rattle.worker_crew.specs.Joins.{AreInTurn, part_row, LetGo, Remain, IsJoined, AreJoined}
-
--- the outputs of the code i are put
-pub joined_next : (codes : List Code) → OwnPlaces codes → (parts : List (List (List Value))) (cycle : ℕ) (old new : List Value) (i : ℕ) (x : Code) (outputs : List Value) → IsJoined codes parts cycle old i
-    → i < length codes → x ≡ get_or codes i x → outputs ≡ part_row parts i cycle → Placed x.positions outputs old new (length x.positions) → IsJoined codes parts cycle new (i + 1)
-joined_next codes own parts cycle old new i x outputs g h is is' p = record {
-  each = λ k j d v lt in_part. dite (ℕ_discrete k i)
-      (λ same. let code : get_or codes k d ≡ x = ap (λ n. get_or codes n d) same ∙ get_or_default codes i d x h ∙ sym is in
-      ap (λ (z : Code). get_or new (get_or z.positions j 0) v) code ∙ p.here j v (subst (λ (z : Code). j < length z.positions) code in_part)
-      ∙ ap (λ (l : List Value). get_or l j v) (is' ∙ ap (λ n. part_row parts n cycle) (sym same)))
-      (λ other. p.others (get_or (get_or codes k d).positions j 0) v (λ m below meets. let code : get_or codes i d ≡ x = get_or_default codes i d x h ∙ sym is in
-      let below' : m < length (get_or codes i d).positions = subst (λ (z : Code). m < length z.positions) (sym code) below in
-      other (own.one_code k i j m d d (omega (arith, lt, h)) h in_part below' (sym (ap (λ (z : Code). get_or z.positions m 0) code ∙ meets))))
-      ∙ g.each k j d v (omega (arith, lt, other)) in_part);
-}
-
-pub remain_start : (parts : List (List (List Value))) → Remain parts parts 0
-remain_start parts = record { many = refl; long = λ k. refl; each = λ k c le. refl }
+use Rattle.worker_crew.specs.Joins.{AreInTurn, LetGo, Remain, IsJoined, AreJoined}
 
 module _ (initial now new : List (List (List Value))) (cycle n : ℕ) (all : n ≤ length now) (go : LetGo cycle now new n) where
   after_of : (k : ℕ) → (get_or new k [] ≡ set (get_or now k []) cycle []) ⊎ (get_or new k [] ≡ get_or now k [])

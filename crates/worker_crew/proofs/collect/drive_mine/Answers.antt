@@ -1,5 +1,4 @@
-use Rattle.std.proofs.Common.{rules, ◌≡◌, ℕ, length, drop, take_at, vec_len, ap, ◌∙◌}
-use Rattle.crew_workers.specs.declared.worker.Worker.{Worker}
+use Rattle.std.proofs.Common.{rules, ◌≡◌, length, drop, take_at, vec_len, ap, ◌∙◌}
 use Rattle.worker_crew.specs.Numbers.{held}
 use Rattle.worker_crew.proofs.Numbers.{held_same}
 use Rattle.worker_crew.proofs.collect.drive_mine.Goals as goal

@@ -1,4 +1,4 @@
-use Rattle.std.proofs.Common.{subst, sym, ap, ℕ, ◌<◌, length, get_or, List, ⊎_elim}
+use Rattle.std.proofs.Common.{subst, sym, ℕ, ◌<◌, length, get_or, List}
 use Rattle.crew_workers.specs.declared.worker.Worker.{Worker}
 use Rattle.worker_crew.specs.Crew.{Fresh}
 use Rattle.worker_crew.proofs.Crews.{each_push}

@@ -1,4 +1,4 @@
-use Rattle.std.proofs.Common.{◌≡◌, ℕ, ◌+◌, ◌≤◌, length, sym, ap, ◌∙◌, subst, arith}
+use Rattle.std.proofs.Common.{◌+◌, ◌≤◌, length, sym, ap, ◌∙◌, subst, arith}
 use Rattle.crew_workers.specs.Places.{HasPlaces}
 use Rattle.crew_workers.proofs.Spreads.{length_push}
 use Rattle.worker_crew.specs.Joins.{IsJoined, AreJoined}

@@ -1,4 +1,4 @@
-use Rattle.std.proofs.Common.{◌≡◌, ◌<◌, List, [], length, get_or, ap, sym, subst, ◌∙◌, arith}
+use Rattle.std.proofs.Common.{◌<◌, [], length, get_or, ap, sym, subst, ◌∙◌, arith}
 use Rattle.phase_core.specs.declared.model.Script.{Script}
 use Rattle.phase_core.specs.Script.{values}
 use Rattle.crew_workers.proofs.Asked.{asked_of}
