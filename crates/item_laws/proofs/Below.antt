@@ -117,7 +117,7 @@ module _ (n : ℕ) where
   ref-below : (at : Place) (name : Name) (suffixes : List Suffix) → ref_below n (record { place = at; form = form.Ref name suffixes }) ≡ nat_lt name.id n
   ref-below at name suffixes = grind (arith, common_steps, expr_lemmas)
 
-both : {a b : Bool} → a ≡ true → b ≡ true → (a && b) ≡ true
+pub both : {a b : Bool} → a ≡ true → b ≡ true → (a && b) ≡ true
 both e f = ap₂ (λ x y. x && y) e f
 
 pub and_left : (a b : Bool) → (a && b) ≡ true → a ≡ true

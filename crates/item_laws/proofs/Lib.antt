@@ -4,4 +4,13 @@ mod Below
 mod Growing
 mod Driving
 mod Modules
+mod Shown
+mod Nodes
+mod Making
+mod Holding
+mod Heading
+mod Typing
+mod Filled
+pub mod Sound
 mod Examples
+mod ExamplesOfItems

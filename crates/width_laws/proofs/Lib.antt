@@ -5,5 +5,5 @@ mod Filled
 mod Numbers
 mod Resets
 mod Statements
-mod Modules
+pub mod Modules
 mod Reached
