@@ -14,7 +14,7 @@ pub returns-in-Err-NoMemory-clause-logged : goal.returns-in-Err-NoMemory-clause-
 returns-in-Err-NoMemory-clause-logged g c = let t = c.in-Err-NoMemory.ensures.logged in (t.0, t.1, run_cut 6 _ _ _ (inr refl) t.3)
 
 pub simulate_log-requires : goal.simulate_log-requires
-simulate_log-requires g c κs within =
+simulate_log-requires g c =
     let l = c.requires.loggable in
     let b = l.is_built in
     record {
