@@ -12,8 +12,9 @@ use Rattle.phase_core.proofs.Lists.{at_below, at-get_or}
 use Rattle.net_meaning.specs.Words.{state_words}
 use Rattle.flat_code.specs.declared.code.Code.{Code}
 use Rattle.flat_code.specs.Codes.{published_by}
-use Rattle.flat_code.specs.Meaning.{pushes}
+use Rattle.flat_code.specs.Meaning.{published, pushes}
 use Rattle.flat_code.proofs.Frames.{published_few}
+use Rattle.flat_code.proofs.Changing.{changed_few}
 use Rattle.flat_code.specs.Codes.{zeros}
 use Rattle.cone_cutter.specs.Splits.{Rises}
 use Rattle.partition_code.specs.Codes.{AreWords, owner_in, AreOfOneCut, MayRun}
@@ -45,10 +46,12 @@ stands s j lt = (j, lt, get_or_default s j (slice_index s j) 0 lt)
 
 few_publications : (code : Code) (words : List ℕ) (inputs : List Value) → code.most < 2 ^ 64 → length (published_by code words inputs) < 2 ^ 64
 few_publications code words inputs h =
-    between (length (published_by code words inputs)) (pushes code.instrs) code.most (2 ^ 64) (published_few code.ports code.wides words inputs code.instrs (zeros code)) code.at_most h
+    let all = published code.ports code.wides code.instrs words inputs (zeros code) in
+    between (length (published_by code words inputs)) (length all) (pushes code.instrs) code.most (2 ^ 64)
+    (changed_few code.once words all) (published_few code.ports code.wides words inputs code.instrs (zeros code)) code.at_most h
   where
-    between : (a b c d : ℕ) → a ≤ b → b ≤ c → c < d → a < d
-    between a b c d e f g = omega (arith, e, f, g)
+    between : (a b c d e : ℕ) → a ≤ b → b ≤ c → c ≤ d → d < e → a < e
+    between a b c d e f g h lt = omega (arith, f, g, h, lt)
 
 module _ (codes : List Code) (cut : AreOfOneCut codes) where
   pub some_code : 1 ≤ length codes
