@@ -1,5 +1,5 @@
 -- What an epoch of the codes of one cut stands on, by places in lists.
-use Rattle.std.proofs.Common.{◌≡◌, ◌≢◌, ◌⊎◌, ⊎_elim, ℕ, ◌+◌, ◌^◌, ◌<◌, ◌≤◌, List, [], length, get_or, slice_get, slice_index, slice_index_or, Some, refl, sym, subst, ap, ◌∙◌, arith}
+use Rattle.std.proofs.Common.{◌≡◌, ⊎_elim, ℕ, ◌^◌, ◌<◌, ◌≤◌, List, [], length, slice_get, slice_index, slice_index_or, Some, sym, subst, ap, ◌∙◌, arith}
 use Rattle.std.specs.Prelude.{Contains}
 use Rattle.std.proofs.lemmas.Bool.{cases_lt, cases_eq}
 use Rattle.std.proofs.lemmas.List.{get_or_default}
@@ -17,9 +17,9 @@ use Rattle.flat_code.proofs.Frames.{published_few}
 use Rattle.flat_code.proofs.Changing.{changed_few}
 use Rattle.flat_code.specs.Codes.{zeros}
 use Rattle.cone_cutter.specs.Splits.{Rises}
-use Rattle.partition_code.specs.Codes.{AreWords, owner_in, AreOfOneCut, MayRun}
-use Rattle.partition_code.proofs.Owners.{beside, IsOwn, publications, owner_below}
-use Rattle.partition_code.proofs.Places.{position_below, positions_rise, place, one_code}
+use Rattle.partition_code.specs.Codes.{AreWords, AreOfOneCut, MayRun}
+use Rattle.partition_code.proofs.Owners.{beside, IsOwn, publications}
+use Rattle.partition_code.proofs.Places.{position_below, positions_rise, one_code}
 use Rattle.partition_code.proofs.Cycles.{cycle_of}
 
 pub slice_of : {A : Type 0} (xs : List A) (k : ℕ) (x : A) → get_elem? xs k ≡ some x → slice_get xs k ≡ Some x

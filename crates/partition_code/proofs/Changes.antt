@@ -1,12 +1,12 @@
 -- What changes nothing may be left out: a word that is published as one value only, whatever publishes it, is so in the end.
-use Rattle.std.proofs.Common.{◌≡◌, ◌⊎◌, ⊎_elim, ℕ, suc, ◌<◌, ◌≤◌, ◌&&◌, ◌==◌, nat_lt, Bool, true, false, List, [], ◌∷◌, map, length, set, get_or, slice_index, slice_get, Some, if◌then◌else◌, refl, sym, subst, ap, ◌∙◌, arith, length-set, get_or-set_same, get_or-set_other}
+use Rattle.std.proofs.Common.{◌≡◌, ◌⊎◌, inl, inr, ⊎_elim, ℕ, suc, ◌<◌, ◌≤◌, ◌&&◌, ◌==◌, nat_lt, Bool, true, false, List, [], ◌∷◌, map, length, set, slice_index, if◌then◌else◌, refl, sym, subst, ap, ◌∙◌, arith, length-set, get_or-set_same, get_or-set_other}
 use Rattle.std.proofs.lemmas.Bool.{cases_eq, ltb-true, eqb-true}
 use Rattle.phase_core.specs.declared.model.Publication.{Publication}
 use Rattle.phase_core.specs.Script.{published, published_all}
 use Rattle.phase_core.proofs.Lists.{at_index, set_again}
 use Rattle.phase_core.proofs.Values.{length-published}
 use Rattle.flat_code.specs.Meaning.{changed}
-use Rattle.sink_effects.proofs.Lists.{Each, each_none, each_cons}
+use Rattle.sink_effects.proofs.Lists.{Each, each_cons}
 
 -- what is so of all publications is so of those that change something
 pub each_changed : (P : Publication → Type 0) (n : ℕ) (words : List ℕ) (ps : List Publication) → Each P ps → Each P (changed n words ps)
@@ -33,7 +33,7 @@ module _ (n : ℕ) (Words Later : List ℕ) where
       (cases_eq i p.word)
     where
       same : (i ≡ p.word → ⊥) → slice_index (set now p.word p.value) i ≡ slice_index now i
-      same other = get_or-set_other now p.word i p.value 0 (λ e. other (sym e))
+      same other = get_or-set_other now p.word i p.value 0 other
 
       here_is : i ≡ p.word → slice_index (set now p.word p.value) i ≡ slice_index Later i
       here_is e =

@@ -1,5 +1,5 @@
 -- Whatever sinks leave: a word of a register is published as the next state has it.
-use Rattle.std.proofs.Common.{◌≡◌, ℕ, zero, suc, ◌+◌, ◌/◌, ◌%◌, ◌^◌, ◌<◌, ◌≤◌, Bool, true, false, List, [], ◌∷◌, length, set, slice_index, slice_get, nat_lt, Option, Some, None, if◌then◌else◌, refl, sym, subst, ap, ◌∙◌, arith, length-set, get_or-set_same, get_or-set_other}
+use Rattle.std.proofs.Common.{◌≡◌, ℕ, ◌+◌, ◌/◌, ◌%◌, ◌^◌, ◌≤◌, Bool, true, false, List, [], ◌∷◌, length, set, slice_index, slice_get, nat_lt, Option, Some, None, if◌then◌else◌, refl, sym, ◌∙◌, arith, length-set, get_or-set_same, get_or-set_other}
 use Rattle.bit_words.specs.declared.value.Value.{Value}
 use Rattle.phase_core.specs.declared.model.Publication.{Publication}
 use Rattle.phase_core.specs.Script.{published}
@@ -13,7 +13,7 @@ use Rattle.net_meaning.specs.Nets.{IsNet, IsWithin}
 use Rattle.net_meaning.specs.Words.{words_of_value, words_of, register_word}
 use Rattle.net_meaning.proofs.Placing.{kept_length}
 use Rattle.flat_code.specs.Meaning.{stored}
-use Rattle.sink_effects.specs.Effects.{HasWord, of_register, of_elements, of_capture, register_shape, register_told, sink_told, sinks_told}
+use Rattle.sink_effects.specs.Effects.{HasWord, of_elements, of_capture, register_shape, register_told, sink_told, sinks_told}
 use Rattle.sink_effects.proofs.Lists.{Each, each_none, each_cons, each_flat}
 use Rattle.sink_effects.proofs.Parts.{register_shape_at, register_part}
 use Rattle.sink_effects.proofs.Told.{told_own}
@@ -74,9 +74,9 @@ module _ (net : Net) (w : IsNet net) (s : NetState) (inside : IsWithin net s) (i
 
   right_told : (sink : Sink) → Each (Right (register_words net) Later) (sink_told net (again net s) instant sink)
   right_told (A_watched x) = each_none (Right (register_words net) Later)
-  right_told (A_register n) k p e lt =
+  right_told (A_register n) = λ k p e lt.
       register_stands n (slice_get net.registers n) refl k p e ∙ word_next net w s inside instant (A_register n) p.word (told_own net (again net s) instant (A_register n) k p e).has
-  right_told (A_memory m) k p e lt =
+  right_told (A_memory m) = λ k p e lt.
       let from = behind_registers net m p.word (told_own net (again net s) instant (A_memory m) k p e).has in
       absurd (omega (arith, from, lt))
 

@@ -2,13 +2,12 @@
 use Rattle.std.specs.Prelude.{◌≡◌, ◌↔◌, ℕ, suc, ◌+◌, ◌^◌, ◌<◌, ◌≤◌, ◌&&◌, ◌||◌, nat_le, nat_lt, Bool, false, IsTrue, List, [], ◌∷◌, map, filter, filter_map, length, slice_get, slice_index, Some, Contains, if◌then◌else◌}
 use Rattle.std.specs.List.{range_with_len}
 use Rattle.bit_words.specs.declared.value.Value.{Value}
-use Rattle.phase_core.specs.declared.model.Publication.{Publication}
 use Rattle.ground_net.specs.declared.net.Net.{Net}
 use Rattle.ground_net.specs.declared.net.Ordered.{Ordered}
 use Rattle.ground_net.specs.declared.net.CutPart.{CutPart}
 use Rattle.ground_net.specs.Cones.{Sink, sinks}
 use Rattle.ground_net.specs.Reads.{IsOrder}
-use Rattle.net_meaning.specs.Cycles.{NetState, Inputs, Valuation, Settled, instant_of}
+use Rattle.net_meaning.specs.Cycles.{Inputs, Valuation, Settled, instant_of}
 use Rattle.net_meaning.specs.Nets.{IsNet, register_shapes}
 use Rattle.net_meaning.specs.Words.{count_words, state_words, state_of}
 use Rattle.flat_code.specs.declared.code.Code.{Code}
