@@ -1,5 +1,5 @@
 -- The code of a part from its layers, and the codes of parts one after the other.
-use Rattle.std.proofs.Common.{◌≡◌, ◌↔◌, ℕ, zero, suc, ◌+◌, ◌<◌, true, false, List, [], ◌∷◌, ◌++◌, map, take, length, slice_get, slice_index, get_or, Option, Some, None, sym, subst, ap, ◌∙◌, arith, All}
+use Rattle.std.proofs.Common.{◌≡◌, ◌↔◌, ℕ, zero, suc, ◌+◌, ◌<◌, ◌≤◌, true, false, List, [], ◌∷◌, ◌++◌, map, take, length, slice_get, slice_index, get_or, Option, Some, None, sym, subst, ap, ◌∙◌, arith, All}
 use Rattle.std.specs.Prelude.{Contains, IsTrue}
 use Rattle.std.proofs.lemmas.List.{take_more, length-append, length-map}
 use Rattle.std.proofs.lemmas.List.Elements.{Contains-get_or}
@@ -79,6 +79,10 @@ words_counted net words reads xs first e same =
 pub registers_counted : (net : Net) (words : FirstWords) (xs : List ℕ) → AreFirst net words → xs ≡ words.registers → slice_index xs (length net.registers) ≡ register_words net
 registers_counted net words xs first same =
     ap (λ l. slice_index l (length net.registers)) same ∙ (first.registers (length net.registers) (omega arith) ∙ behind_registers net)
+
+-- and it is a word of the state, or the one behind the last
+pub registers_first : (net : Net) (n m : ℕ) → n ≡ register_words net → m ≡ state_words net → n ≤ m
+registers_first net n m e f = omega (arith, e, f)
 
 -- The same code, but of registers it publishes the words that change alone.
 pub record PublishesChanges (net : Net) (code new : Code) : Type 0 where

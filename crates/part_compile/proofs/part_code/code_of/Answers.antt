@@ -1,4 +1,4 @@
-use Rattle.std.proofs.Common.{◌<◌, length, All, sym, subst, ap, ap₂, ◌∙◌, arith}
+use Rattle.std.proofs.Common.{◌<◌, length, slice_index, All, sym, subst, ap, ap₂, ◌∙◌, arith}
 use Rattle.flat_code.specs.Meaning.{changed}
 use Rattle.flat_code.specs.Codes.{published_by}
 use Rattle.flat_code.specs.Fine.{nothing}
@@ -8,7 +8,7 @@ use Rattle.code_sequence.specs.Sequences.{InTurn, StandElsewhere, turned_table}
 use Rattle.code_sequence.specs.Segmented.{AreSegments}
 use Rattle.code_parts.proofs.Turning.{part_turn}
 use Rattle.part_compile.proofs.Keeping.{are_kept}
-use Rattle.part_compile.proofs.Composing.{at_both, reads_long, words_counted, registers_counted, are_assignments, all_within, goes_on, is_work, code_is}
+use Rattle.part_compile.proofs.Composing.{at_both, reads_long, words_counted, registers_counted, registers_first, are_assignments, all_within, goes_on, is_work, code_is}
 use Rattle.part_compile.proofs.Framing.{code_in_pieces}
 use Rattle.part_compile.proofs.part_code.code_of.Goals as goal
 
@@ -22,17 +22,21 @@ bounds-as_slice-last c =
 pub bounds-as_slice-behind : goal.bounds-as_slice-behind
 bounds-as_slice-behind c =
     let long = c.requires.plan.first.all_registers in
-    let same = ap length c.as_slice-once.ensures in
-    omega (arith, long, same)
+    let same = ap length c.as_slice-4.ensures in
+    let behind = c.len-behind.ensures in
+    omega (arith, long, same, behind)
 
-pub publishing_changes-requires-clause-there : goal.publishing_changes-requires-clause-there
-publishing_changes-requires-clause-there c =
+pub publishing_changes-code-requires-clause-there : goal.publishing_changes-code-requires-clause-there
+publishing_changes-code-requires-clause-there c =
     let net = c.args.plan.now.net.now in
+    let w = c.requires.plan.is_net in
+    let u = c.requires.part in
     let start = c.empty-draft.ensures in
     let counted = start.words ∙ words_counted net c.args.plan.now.words.now c.args.plan.now.reads.now c.as_slice.result.now c.requires.plan.first c.requires.plan.captured c.as_slice.ensures in
-    let once = registers_counted net c.args.plan.now.words.now c.as_slice-once.result.now c.requires.plan.first c.as_slice-once.ensures in
-    let words = c.in_ok-whole.ensures.words in
-    omega (arith, once, words, counted)
+    let goes = goes_on net w c.args.plan.now.watch.now c.args.part.now u.sequence u.union c.in_ok-sources.sources c.assign_all.new.sources c.empty-draft.result c.assign_all.new.draft _ _ c.in_ok-sources.ensures start.instrs start.ports start.wides counted
+    c.as_slice-2.ensures c.as_slice-3.ensures c.in_ok-assign_all.ensures.assigns in
+    let once = ap (slice_index c.as_slice-4.result.now) c.len-behind.ensures ∙ registers_counted net c.args.plan.now.words.now c.as_slice-4.result.now c.requires.plan.first c.as_slice-4.ensures in
+    registers_first net _ _ once (c.in_ok-whole.ensures.words ∙ (c.in_ok-made.ensures.so_far.tells.words ∙ (goes.grows.words ∙ counted)))
 
 pub assign_all-requires-clause-within : goal.assign_all-requires-clause-within
 assign_all-requires-clause-within c =
@@ -88,7 +92,7 @@ returns-clause-code c =
     let goes = goes_on net w watch part u.sequence u.union c.in_ok-sources.sources c.assign_all.new.sources c.empty-draft.result c.assign_all.new.draft _ _ c.in_ok-sources.ensures start.instrs start.ports start.wides counted
     c.as_slice-2.ensures c.as_slice-3.ensures c.in_ok-assign_all.ensures.assigns in
     let whole = c.in_ok-whole.ensures in
-    let once = registers_counted net c.args.plan.now.words.now c.as_slice-once.result.now c.requires.plan.first c.as_slice-once.ensures in
+    let once = ap (slice_index c.as_slice-4.result.now) c.len-behind.ensures ∙ registers_counted net c.args.plan.now.words.now c.as_slice-4.result.now c.requires.plan.first c.as_slice-4.ensures in
     let now = c.publishing_changes-code.ensures in
     code_is net w watch part c.in_ok-sources.sources c.assign_all.new.sources c.empty-draft.result c.assign_all.new.draft c.in_ok-made.made c.in_ok-whole.whole c.publishing_changes-code.result c.in_ok-sources.ensures start.instrs
     counted goes (are_assignments net w watch part u.sequence u.union) c.in_ok-made.ensures.so_far whole.effects whole.positions whole.owned whole.words
