@@ -1,5 +1,5 @@
 -- From position to position, from the last one back.
-use Rattle.std.proofs.Common.{◌≡◌, ◌⊎◌, ℕ, zero, suc, ◌+◌, ◌*◌, ◌<◌, ◌≤◌, ◌==◌, ◌||◌, Bool, true, false, max, List, [], ◌∷◌, ◌++◌, map, filter, flat_map, length, take, drop, slice_index, slice_index_or, slice_get, Option, Some, None, Contains, refl, sym, subst, ap, ◌∙◌, arith, ⊎_elim, append-nil}
+use Rattle.std.proofs.Common.{◌≡◌, ℕ, zero, suc, ◌+◌, ◌*◌, ◌<◌, ◌≤◌, ◌==◌, ◌||◌, Bool, true, false, max, List, [], ◌∷◌, ◌++◌, map, flat_map, length, take, drop, slice_index, slice_index_or, slice_get, Option, Some, None, Contains, refl, sym, subst, ap, ◌∙◌, arith, ⊎_elim, append-nil}
 use Rattle.std.specs.Prelude.{filter_map}
 use Rattle.std.specs.List.{cons_option}
 use Rattle.std.proofs.lemmas.Bool.{cases_lt, eq-eqb}
@@ -17,7 +17,7 @@ use Rattle.cone_cutter.specs.Rows.{sink_of}
 use Rattle.cone_cutter.proofs.Lists.{none_in, cons_cases}
 use Rattle.part_compile.specs.declared.live_count.LiveCount.{LiveCount}
 use Rattle.part_compile.specs.Counts.{is_read, CountsLive, ReadsMore, Passes}
-use Rattle.part_compile.specs.Rooms.{read_by_sinks, read_from, live_before, HasRoom}
+use Rattle.part_compile.specs.Rooms.{read_by_sinks, read_from, HasRoom}
 use Rattle.part_compile.proofs.Marks.{filter_le}
 
 false_true : false ≡ true → ⊥

@@ -1,4 +1,4 @@
-use Rattle.std.proofs.Common.{◌≡◌, ◌+◌, ◌-◌, ◌<◌, ◌≤◌, length, slice_index, sym, subst, ap, ◌∙◌, arith}
+use Rattle.std.proofs.Common.{◌≡◌, ◌+◌, ◌-◌, ◌<◌, length, slice_index, sym, subst, ap, arith}
 use Rattle.part_compile.proofs.Walking.{CountsAt, counted_room, most_room, stepped}
 use Rattle.part_compile.proofs.room.most_slots.Goals as goal
 
