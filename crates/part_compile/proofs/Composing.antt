@@ -12,7 +12,7 @@ use Rattle.ground_net.specs.declared.net.CutPart.{CutPart}
 use Rattle.ground_net.specs.Reads.{IsAssigned, IsOrder}
 use Rattle.net_meaning.specs.Nets.{IsNet}
 use Rattle.net_meaning.specs.Cycles.{captures}
-use Rattle.net_meaning.specs.Words.{state_words, register_word, captured_word}
+use Rattle.net_meaning.specs.Words.{state_words, captured_word}
 use Rattle.flat_code.specs.declared.code.Code.{Code}
 use Rattle.flat_code.specs.declared.code.Span.{Span}
 use Rattle.flat_code.specs.declared.instr.Instr.{Instr}
