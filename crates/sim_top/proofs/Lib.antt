@@ -4,5 +4,4 @@ pub mod Naming
 pub mod Replying
 pub mod Carrying
 pub mod EmptyText
-pub mod Sound
 pub mod Apart
