@@ -155,17 +155,12 @@ fn push_between(
     if !ground.leaf {
         return Ok(());
     }
-    if ground.flip {
-        feeds.push(Feed {
-            from: left,
-            to: right,
-        })
+    let (from, to) = if ground.flip {
+        (left, right)
     } else {
-        feeds.push(Feed {
-            from: right,
-            to: left,
-        })
-    }
+        (right, left)
+    };
+    feeds.push(Feed { from, to })
 }
 
 /// Adds the feeds from some places to others, one beside another.

@@ -61,12 +61,10 @@ fn stmt_source(statement: &Stmt) -> bool
         Stmt::Reg(_, typ, _) => holds_async(typ),
         Stmt::RegReset(_, typ, _, _, _) => holds_async(typ),
         Stmt::Mem(memory) => memory_holds(memory.lines.as_slice()),
-        Stmt::Inst(_, _) => false,
         Stmt::Node(_, expr) => is_a_cast(expr),
         Stmt::Connect(left, right) => is_a_cast(left) || is_a_cast(right),
-        Stmt::Invalidate(_) => false,
         Stmt::When(arms, other) => any_arm_source(arms.as_slice()) || any_source(other.as_slice()),
-        Stmt::Skip(_) => false,
+        Stmt::Inst(_, _) | Stmt::Invalidate(_) | Stmt::Skip(_) => false,
     }
 }
 
@@ -100,8 +98,7 @@ fn is_a_cast(expr: &Expr) -> bool
     ensures { result ≡ is_a_cast expr.now }
 {
     match &expr.form {
-        Form::Ref(_, _) => false,
-        Form::Literal(_, _, _) => false,
+        Form::Ref(_, _) | Form::Literal(_, _, _) => false,
         Form::Prim(prim, _, _) => is_cast(*prim),
         Form::Mux(operands) => any_cast(operands.as_slice()),
     }
