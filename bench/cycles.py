@@ -156,14 +156,14 @@ def builds(tool, room, file, defined, times):
 
 
 def spans(run, room, tool, asked):
-    """The seconds of runs of 1, 1,000, 20,000 and 1,000,000 cycles; the last from that of 20,000 where it would take too long, which is said."""
-    took = {}
+    """The seconds of runs of 1, 1,000 and 1,000,000 cycles; the last from a shorter run where it would take too long, which is said."""
+    took, last = {}, 1
     for cycles in (1, 1_000, 20_000, MOST):
-        if cycles == MOST and took[20_000] * 50 > asked.most:
-            return took | {MOST: took[1] + (took[20_000] - took[1]) * 50}, True
+        if cycles > 1_000 and took[last] * cycles / last > asked.most:
+            return took | {MOST: took[1] + (took[last] - took[1]) * (MOST - 1) / (last - 1)}, True
         out = room / f"{tool}.{cycles}.trace"
         took[cycles] = min(used(*run(cycles), out=out)[1] for _ in range(1 if cycles == MOST else asked.times))
-        same = room / f"firsim.{cycles}.trace"
+        same, last = room / f"firsim.{cycles}.trace", cycles
         if same.exists() and out.read_bytes() != same.read_bytes():
             raise SystemExit(f"cycles: the traces of {tool} differ")
     return took, False
