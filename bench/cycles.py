@@ -193,7 +193,8 @@ def beside_verilog(asked):
                 if tool in tools:
                     first, own = figures["firsim"]
                     quicker = "never" if each >= own else f"{max(1, (start - first) / (own - each)):,.0f}"
-                print(f"{name:20}{tool:>12}{start:10.3f}{each * 1e6:12.2f}{build + took[1_000]:10.2f}{about + format(build + took[MOST], '.1f'):>14}{quicker:>16}", flush=True)
+                whole = about + format(build + took[MOST], ".1f")
+                print(f"{name:20}{tool:>12}{start:10.3f}{each * 1e6:12.2f}{build + took[1_000]:10.2f}{whole:>14}{quicker:>16}", flush=True)
 
 
 def main():
