@@ -376,9 +376,9 @@ module Core :
   {instance("place", "Address")}
   {instance("stored", "Stored")}
   {instance("loaded", "Loaded")}
-  connect io.fetch.enable, running
-  connect io.fetch.address, bits(pc, 15, 2)
   node astray = orr(bits(pc, 31, 16))
+  connect io.fetch.enable, and(running, not(astray))
+  connect io.fetch.address, bits(pc, 15, 2)
   connect decoder.io.inst, io.fetch.data
   wire control : {CONTROL}
   connect control, decoder.io.control
@@ -440,8 +440,9 @@ module Core :
   connect io.store.bits.address, bits(alu.io.out, 15, 2)
   connect io.store.bits.data, stored.io.bytes
   connect io.store.bits.mask, stored.io.mask
-  connect io.console.valid, and(and(done, control.store), place.io.console)
-  connect io.console.bits, bits(b, 7, 0)
+  node told = and(and(done, control.store), place.io.console)
+  connect io.console.valid, told
+  connect io.console.bits, mux(told, bits(b, 7, 0), UInt<8>(0))
 
   wire value : UInt<32>
   connect value, alu.io.out
@@ -458,10 +459,15 @@ module Core :
     connect pc, mux(taken, target, following)
   else when running :
     connect halted, UInt<1>(1)
-  connect io.exit.valid, and(running, trap.valid)
-  connect io.exit.bits.code, trap.bits
-  connect io.exit.bits.value, mux(control.ecall, a, io.fetch.data)
-  connect io.exit.bits.pc, pc
+  node ends = and(running, trap.valid)
+  connect io.exit.valid, ends
+  connect io.exit.bits.code, UInt<3>(0)
+  connect io.exit.bits.value, UInt<32>(0)
+  connect io.exit.bits.pc, UInt<32>(0)
+  when ends :
+    connect io.exit.bits.code, trap.bits
+    connect io.exit.bits.value, mux(control.ecall, a, io.fetch.data)
+    connect io.exit.bits.pc, pc
   connect io.retire.valid, done
   connect io.retire.bits.pc, pc
   connect io.retire.bits.inst, io.fetch.data
@@ -519,7 +525,7 @@ module Core :
   wire ending : UInt<1>
   node address = mux(redirect, target, mux(stall, d.pc, pc))
   node fetching = and(running, not(or(stopped, ending)))
-  connect io.fetch.enable, fetching
+  connect io.fetch.enable, and(fetching, not(orr(bits(address, 31, 16))))
   connect io.fetch.address, bits(address, 15, 2)
   connect dValid, fetching
   when fetching :
@@ -611,8 +617,9 @@ module Core :
   connect io.store.bits.address, bits(alu.io.out, 15, 2)
   connect io.store.bits.data, stored.io.bytes
   connect io.store.bits.mask, stored.io.mask
-  connect io.console.valid, and(and(execute, x.control.store), place.io.console)
-  connect io.console.bits, bits(b, 7, 0)
+  node told = and(and(execute, x.control.store), place.io.console)
+  connect io.console.valid, told
+  connect io.console.bits, mux(told, bits(b, 7, 0), UInt<8>(0))
 
   connect mValid, and(xValid, running)
   connect m.pc, x.pc
@@ -645,10 +652,15 @@ module Core :
   connect registers.io.write.enable, done
   connect registers.io.write.rd, wRd
   connect registers.io.write.value, w.value
-  connect io.exit.valid, and(and(wValid, running), w.trap)
-  connect io.exit.bits.code, w.code
-  connect io.exit.bits.value, mux(eq(w.code, UInt<3>(0)), w.value, w.inst)
-  connect io.exit.bits.pc, w.pc
+  node ends = and(and(wValid, running), w.trap)
+  connect io.exit.valid, ends
+  connect io.exit.bits.code, UInt<3>(0)
+  connect io.exit.bits.value, UInt<32>(0)
+  connect io.exit.bits.pc, UInt<32>(0)
+  when ends :
+    connect io.exit.bits.code, w.code
+    connect io.exit.bits.value, mux(eq(w.code, UInt<3>(0)), w.value, w.inst)
+    connect io.exit.bits.pc, w.pc
   connect io.retire.valid, done
   connect io.retire.bits.pc, w.pc
   connect io.retire.bits.inst, w.inst
@@ -790,17 +802,15 @@ class Unfolded:
 
 
 def tree(lines):
-    """Lines with those that are indented below each."""
-    found, open_ = [], [(-1, None)]
+    """Lines, each with those that are indented below it."""
+    found = []
+    open_ = [(-1, found)]
     for line in lines:
         indent, item = len(line) - len(line.lstrip()), (line.strip(), [])
-        if not line.strip():
-            item, indent = ("", []), open_[-1][0]
-        while open_[-1][0] >= indent and line.strip():
+        while open_[-1][0] >= indent:
             open_.pop()
-        (open_[-1][1] if open_[-1][1] is not None else found).append(item)
-        if line.strip():
-            open_.append((indent, item[1]))
+        open_[-1][1].append(item)
+        open_.append((indent, item[1]))
     return found
 
 
@@ -809,9 +819,8 @@ def unfolded(text):
     for module in re.split(r"(?m)^(?=module )", text.strip())[1:]:
         head, *body = module.rstrip().splitlines()
         made = Unfolded()
-        blank = [number for number, line in enumerate(body) if not line.strip()]
         made.block(tree([line for line in body if line.strip()]), 2)
-        lines += [f"  {head}", *made.lines, ""] if blank or made.lines else []
+        lines += [f"  {head}", *made.lines, ""]
     return lines
 
 

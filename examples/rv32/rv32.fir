@@ -512,11 +512,13 @@ circuit Rv32 :
     inst loaded of Loaded
     connect loaded.clock, clock
     connect loaded.reset, reset
-    connect io.fetch.enable, running
-    node _io_fetch_address_T = bits(pc, 15, 2)
-    connect io.fetch.address, _io_fetch_address_T
     node _astray_T = bits(pc, 31, 16)
     node astray = orr(_astray_T)
+    node _io_fetch_enable_T = not(astray)
+    node _io_fetch_enable_T_1 = and(running, _io_fetch_enable_T)
+    connect io.fetch.enable, _io_fetch_enable_T_1
+    node _io_fetch_address_T = bits(pc, 15, 2)
+    connect io.fetch.address, _io_fetch_address_T
     connect decoder.io.inst, io.fetch.data
     wire control : { legal : UInt<1>, rs1 : UInt<5>, rs2 : UInt<5>, rd : UInt<5>, writes : UInt<1>, immediate : UInt<32>, source : UInt<2>, constant : UInt<1>, operation : UInt<4>, funct3 : UInt<3>, muldiv : UInt<1>, branch : UInt<1>, jump : UInt<1>, indirect : UInt<1>, load : UInt<1>, store : UInt<1>, ecall : UInt<1>, ebreak : UInt<1>}
     connect control, decoder.io.control
@@ -603,11 +605,12 @@ circuit Rv32 :
     connect io.store.bits.address, _io_store_bits_address_T
     connect io.store.bits.data, stored.io.bytes
     connect io.store.bits.mask, stored.io.mask
-    node _io_console_valid_T = and(done, control.store)
-    node _io_console_valid_T_1 = and(_io_console_valid_T, place.io.console)
-    connect io.console.valid, _io_console_valid_T_1
+    node _told_T = and(done, control.store)
+    node told = and(_told_T, place.io.console)
+    connect io.console.valid, told
     node _io_console_bits_T = bits(b, 7, 0)
-    connect io.console.bits, _io_console_bits_T
+    node _io_console_bits_T_1 = mux(told, _io_console_bits_T, UInt<8>(0))
+    connect io.console.bits, _io_console_bits_T_1
     wire value : UInt<32>
     connect value, alu.io.out
     when control.jump :
@@ -625,12 +628,16 @@ circuit Rv32 :
       connect pc, _pc_T
     else when running :
       connect halted, UInt<1>(1)
-    node _io_exit_valid_T = and(running, trap.valid)
-    connect io.exit.valid, _io_exit_valid_T
-    connect io.exit.bits.code, trap.bits
-    node _io_exit_bits_value_T = mux(control.ecall, a, io.fetch.data)
-    connect io.exit.bits.value, _io_exit_bits_value_T
-    connect io.exit.bits.pc, pc
+    node ends = and(running, trap.valid)
+    connect io.exit.valid, ends
+    connect io.exit.bits.code, UInt<3>(0)
+    connect io.exit.bits.value, UInt<32>(0)
+    connect io.exit.bits.pc, UInt<32>(0)
+    when ends :
+      connect io.exit.bits.code, trap.bits
+      node _io_exit_bits_value_T = mux(control.ecall, a, io.fetch.data)
+      connect io.exit.bits.value, _io_exit_bits_value_T
+      connect io.exit.bits.pc, pc
     connect io.retire.valid, done
     connect io.retire.bits.pc, pc
     connect io.retire.bits.inst, io.fetch.data

@@ -557,7 +557,11 @@ circuit Rv32Pipe :
     node _fetching_T = or(stopped, ending)
     node _fetching_T_1 = not(_fetching_T)
     node fetching = and(running, _fetching_T_1)
-    connect io.fetch.enable, fetching
+    node _io_fetch_enable_T = bits(address, 31, 16)
+    node _io_fetch_enable_T_1 = orr(_io_fetch_enable_T)
+    node _io_fetch_enable_T_2 = not(_io_fetch_enable_T_1)
+    node _io_fetch_enable_T_3 = and(fetching, _io_fetch_enable_T_2)
+    connect io.fetch.enable, _io_fetch_enable_T_3
     node _io_fetch_address_T = bits(address, 15, 2)
     connect io.fetch.address, _io_fetch_address_T
     connect dValid, fetching
@@ -702,11 +706,12 @@ circuit Rv32Pipe :
     connect io.store.bits.address, _io_store_bits_address_T
     connect io.store.bits.data, stored.io.bytes
     connect io.store.bits.mask, stored.io.mask
-    node _io_console_valid_T = and(execute, x.control.store)
-    node _io_console_valid_T_1 = and(_io_console_valid_T, place.io.console)
-    connect io.console.valid, _io_console_valid_T_1
+    node _told_T = and(execute, x.control.store)
+    node told = and(_told_T, place.io.console)
+    connect io.console.valid, told
     node _io_console_bits_T = bits(b, 7, 0)
-    connect io.console.bits, _io_console_bits_T
+    node _io_console_bits_T_1 = mux(told, _io_console_bits_T, UInt<8>(0))
+    connect io.console.bits, _io_console_bits_T_1
     node _mValid_T = and(xValid, running)
     connect mValid, _mValid_T
     connect m.pc, x.pc
@@ -744,14 +749,18 @@ circuit Rv32Pipe :
     connect registers.io.write.enable, done
     connect registers.io.write.rd, wRd
     connect registers.io.write.value, w.value
-    node _io_exit_valid_T = and(wValid, running)
-    node _io_exit_valid_T_1 = and(_io_exit_valid_T, w.trap)
-    connect io.exit.valid, _io_exit_valid_T_1
-    connect io.exit.bits.code, w.code
-    node _io_exit_bits_value_T = eq(w.code, UInt<3>(0))
-    node _io_exit_bits_value_T_1 = mux(_io_exit_bits_value_T, w.value, w.inst)
-    connect io.exit.bits.value, _io_exit_bits_value_T_1
-    connect io.exit.bits.pc, w.pc
+    node _ends_T = and(wValid, running)
+    node ends = and(_ends_T, w.trap)
+    connect io.exit.valid, ends
+    connect io.exit.bits.code, UInt<3>(0)
+    connect io.exit.bits.value, UInt<32>(0)
+    connect io.exit.bits.pc, UInt<32>(0)
+    when ends :
+      connect io.exit.bits.code, w.code
+      node _io_exit_bits_value_T = eq(w.code, UInt<3>(0))
+      node _io_exit_bits_value_T_1 = mux(_io_exit_bits_value_T, w.value, w.inst)
+      connect io.exit.bits.value, _io_exit_bits_value_T_1
+      connect io.exit.bits.pc, w.pc
     connect io.retire.valid, done
     connect io.retire.bits.pc, w.pc
     connect io.retire.bits.inst, w.inst

@@ -34,10 +34,8 @@ static int interpret(const char *program) {
 
 int main(void) {
   static const char hello[] = "++++++++[>++++[>++>+++>+++>+<<<<-]>+>+>->>+[<]<-]>>.>---.+++++++..+++.>>.<-.<.+++.------.--------.>>+.>++.";
-  static const char squares[] =
-      "++++[>+++++<-]>[<+++++>-]+<+[>[>+>+<<-]++>>[<<+>>-]>>>[-]++>[-]+>>>+[[-]++++++>>>]<<<[[<++++++++<++>>-]+<.<[>----<-]<]"
-      "<<[>>>>>[>>>[-]+++++++++<[>-<-]+++++++++>[-[<->-]+[<<<]]<[>+<-]>]<<-]<<-]";
+  static const char letters[] = "++++++++[>++++++++<-]>+<+++++[>>+++++<<-]>>+[<.+>-]++++++++++.";
   if (interpret(hello)) return 1;
-  if (interpret(squares)) return 2;
+  if (interpret(letters)) return 2;
   return interpret("[") == 1 && interpret("]") == 1 ? 0 : 3;
 }
