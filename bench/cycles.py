@@ -13,6 +13,7 @@ import hashlib
 import math
 import os
 import re
+import resource
 import shutil
 import subprocess
 import tempfile
@@ -36,16 +37,15 @@ VERILOG = {
 UNROLLED = ("--unroll-count", "1024", "--unroll-stmts", "1000000")
 
 
-def used(words, folder=None, text=None, out=None):
+def used(words, text=None, out=None):
     """Seconds by the clock, and those of the processors, of a command that must not fail. What it writes goes into a file, or nowhere."""
-    before = os.times()
-    began = time.perf_counter()
+    before, began = resource.getrusage(resource.RUSAGE_CHILDREN), time.perf_counter()
     with open(out or os.devnull, "wb") as sink, open(text or os.devnull, "rb") as given:
-        done = subprocess.run(words, stdin=given, stdout=sink, stderr=subprocess.PIPE, cwd=folder)
-    took, after = time.perf_counter() - began, os.times()
+        done = subprocess.run(words, stdin=given, stdout=sink, stderr=subprocess.PIPE)
+    took, after = time.perf_counter() - began, resource.getrusage(resource.RUSAGE_CHILDREN)
     if done.returncode:
         raise SystemExit(f"cycles: {words[0]} ended with {done.returncode}: {done.stderr[-500:].decode()}")
-    return took, after.children_user + after.children_system - before.children_user - before.children_system
+    return took, after.ru_utime + after.ru_stime - before.ru_utime - before.ru_stime
 
 
 class Room:
@@ -141,54 +141,64 @@ def table(asked):
         print(f"{'mean but rings':16}{means}")
 
 
-def least(times, *words, **how):
-    runs = [used(*words, **how) for _ in range(times)]
-    return min(run[1] for run in runs)
+def builds(tool, room, file, defined, times):
+    """How a tool runs a Verilog text, as a function of the number of cycles, and the seconds of its build, the least of so many."""
+    texts = [HERE / "verilog" / file, HERE / "verilog" / ("trace.v" if tool == "iverilog" else "trace.cpp")]
+    made = room / tool
+    words = ["iverilog", "-g2005", *defined, "-o", made]
+    if tool == "verilator":
+        words = ["verilator", "--cc", "--exe", "--build", "-O3", *UNROLLED, "-CFLAGS", "-O2", "--top-module", "bench", "--Mdir", made, *defined]
+    least = math.inf
+    for _ in range(times):
+        shutil.rmtree(made, ignore_errors=True)
+        least = min(least, used([*words, *texts])[1])
+    return (lambda cycles: ["vvp", "-n", made, f"+cycles={cycles}"]) if tool == "iverilog" else (lambda cycles: [made / "Vbench", str(cycles)]), least
+
+
+def spans(run, room, tool, asked):
+    """The seconds of runs of 1, 1,000 and 1,000,000 cycles; the last from a shorter run where it would take too long, which is said."""
+    took, last = {}, 1
+    for cycles in (1, 1_000, 20_000, MOST):
+        if cycles > 1_000 and took[last] * cycles / last > asked.most:
+            return took | {MOST: took[1] + (took[last] - took[1]) * (MOST - 1) / (last - 1)}, True
+        out = room / f"{tool}.{cycles}.trace"
+        took[cycles] = min(used(*run(cycles), out=out)[1] for _ in range(1 if cycles == MOST else asked.times))
+        same, last = room / f"firsim.{cycles}.trace", cycles
+        if same.exists() and out.read_bytes() != same.read_bytes():
+            raise SystemExit(f"cycles: the traces of {tool} differ")
+    return took, False
 
 
 def beside_verilog(asked):
     """From text to trace, builds included: seconds of the processors for 1,000 and 1,000,000 cycles, and from how many on another one is quicker."""
-    program, verilog = str(Path(asked.program).resolve()), HERE / "verilog"
+    program = str(Path(asked.program).resolve())
     tools = [tool for tool in ("iverilog", "verilator") if shutil.which(tool)]
-    print("\n".join(f"cycles: {tool} isn't installed" for tool in ("iverilog", "verilator") if tool not in tools) or "seconds of the processors, from text to trace")
-    print(f"{'circuit':20}{'by':>12}{'build':>10}{'us a cycle':>12}{'1,000':>10}{'1,000,000':>12}{'quicker from':>14}")
+    for tool in {"iverilog", "verilator"} - {*tools}:
+        print(f"cycles: {tool} isn't installed")
+    print("seconds of the processors, from text to trace")
+    print(f"{'circuit':20}{'by':>12}{'build':>10}{'us a cycle':>12}{'1,000':>10}{'1,000,000':>14}{'quicker from':>16}")
     for name, (circuit, file, defined) in VERILOG.items():
         with tempfile.TemporaryDirectory() as folder:
-            room, figures = Path(folder), {}
+            room = Path(folder)
+            texts, figures = Room(room, False), {}
             for tool in ("firsim", *tools):
-                build, run = 0.0, None
-                if tool == "iverilog":
-                    build = least(asked.times, ["iverilog", "-g2005", *defined, "-o", room / "icarus", verilog / file, verilog / "trace.v"])
-                    run = lambda cycles: (["vvp", "-n", room / "icarus", f"+cycles={cycles}"], None)
-                elif tool == "verilator":
-                    words = ["verilator", "--cc", "--exe", "--build", "-O3", *UNROLLED, "-CFLAGS", "-O2", "--top-module", "bench", "--Mdir", room / "made", *defined]
-                    build = math.inf
-                    for _ in range(asked.times):
-                        shutil.rmtree(room / "made", ignore_errors=True)
-                        build = min(build, used([*words, verilog / file, verilog / "trace.cpp"])[1])
-                    run = lambda cycles: ([room / "made/Vbench", str(cycles)], None)
-                else:
-                    run = lambda cycles: ([program, "run"], Room(folder, False).text("text", circuit(), cycles))
-                took = {}
-                for cycles in (1, 1_000, 20_000, MOST):
-                    if cycles == MOST and took[20_000] * 50 > asked.most:
-                        took[cycles] = took[1] + (took[20_000] - took[1]) * 50  # told as `about`
-                        continue
-                    words, text = run(cycles)
-                    took[cycles] = least(1 if cycles == MOST else asked.times, words, text=text, out=room / f"{tool}.{cycles}")
-                    if tool != "firsim" and (room / f"{tool}.{cycles}").read_bytes() != (room / f"firsim.{cycles}").read_bytes():
-                        raise SystemExit(f"cycles: the trace of {name} by {tool} differs")
-                each = (took[MOST] - took[1]) / (MOST - 1) if (room / f"{tool}.{MOST}").exists() else (took[20_000] - took[1]) / 19_999
-                figures[tool] = build + took[1], each
-                about = "" if (room / f"{tool}.{MOST}").exists() else "about "
-                quicker = ""
-                if tool != "firsim" and each < figures["firsim"][1]:
-                    quicker = f"{max(1, (figures[tool][0] - figures['firsim'][0]) / (figures['firsim'][1] - each)):,.0f}"
-                print(f"{name:20}{tool:>12}{build:10.2f}{each * 1e6:12.2f}{build + took[1_000]:10.2f}{about + format(build + took[MOST], '.1f'):>12}{quicker or ('never' if tool != 'firsim' else ''):>14}", flush=True)
+                build, run = 0.0, lambda cycles: ([program, "run"], texts.text("text", circuit(), cycles))
+                if tool in tools:
+                    words, build = builds(tool, room, file, defined, asked.times)
+                    run = lambda cycles: (words(cycles), None)
+                took, guessed = spans(run, room, tool, asked)
+                each = max(took[MOST] - took[1], 0) / (MOST - 1)
+                start, about, quicker = build + took[1], "about " * guessed, ""
+                figures[tool] = start, each
+                if tool in tools:
+                    first, own = figures["firsim"]
+                    quicker = "never" if each >= own else f"{max(1, (start - first) / (own - each)):,.0f}"
+                whole = about + format(build + took[MOST], ".1f")
+                print(f"{name:20}{tool:>12}{start:10.3f}{each * 1e6:12.2f}{build + took[1_000]:10.2f}{whole:>14}{quicker:>16}", flush=True)
 
 
 def main():
-    words = argparse.ArgumentParser(usage=__doc__.split("usage: ")[1].split("\n\n")[0].replace("\n      ", "\n"))
+    words = argparse.ArgumentParser(usage=re.search(r"usage: (.*?)\n\n", __doc__, re.S)[1])
     words.add_argument("program")
     words.add_argument("other", nargs="?")
     words.add_argument("--circuits", nargs="+", choices=list(CIRCUITS), default=list(CIRCUITS))
