@@ -9,6 +9,7 @@ As a script it compares the runs of these programs of examples/rv32/programs, or
 import importlib.util
 import random
 import re
+import shutil
 import subprocess
 import sys
 import tempfile
@@ -119,15 +120,16 @@ def wanted_log(core, words, most=1_000_000):
 
 
 def other_log(program, core, words, workers, host=None):
-    """Why a core's trace doesn't tell what the model's console was told, and `log` neither; or none. What is told is what the host printed, if that is
-    given."""
+    """Why a core's log isn't what the model's console was told, or by one worker its trace tells another text; or none. What is told is what the host
+    printed, if that is given."""
     wanted, cycle = wanted_log(core, words)
     if host is not None and wanted.rpartition("stopped")[0] != host:
         return f"the model prints {wanted[:200]!r}, not {host[:200]!r}"
     text = joined(core, words, cycle + 3)
-    told = console.log_of(run(program, ["run", "--workers", workers], text).splitlines())
-    if told != wanted:
-        return f"the trace tells {told[-200:]!r}, not {wanted[-200:]!r}"
+    if workers == "1":
+        told = console.log_of(run(program, ["run"], text).splitlines())
+        if told != wanted:
+            return f"the trace tells {told[-200:]!r}, not {wanted[-200:]!r}"
     told = run(program, ["log", "--workers", workers], text)
     return None if told == wanted else f"the log is {told[-200:]!r}, not {wanted[-200:]!r}"
 
@@ -292,6 +294,35 @@ def program_faults(program, name, workers):
         yield f"{name} on {core}, each instruction", fault(other_steps, program, core, words, "1")
 
 
+def other_page(program):
+    """Why the commands of docs/RV32.md, run as they stand there, don't write what the page shows; or none. Where the compiler isn't installed, or is
+    another one that makes another image, the image that comes with the repository stands in its place."""
+    blocks = re.findall(r"^```(\w*)\n(.*?)```", (TOP / "docs/RV32.md").read_text(), re.M | re.S)
+    shown = (FOLDER / "programs/hello.c").read_text().partition("\n")[2]
+    if blocks[0] != ("c", shown):
+        return "it doesn't show hello.c"
+    with tempfile.TemporaryDirectory() as room:
+        for name, path in (("examples", TOP / "examples"), ("wave", TOP / "wave"), ("firsim", program)):
+            (Path(room) / name).symlink_to(path)
+        own = Path(room) / "hello.hex"
+        for number, (kind, text) in enumerate(blocks):
+            if kind != "sh":
+                continue
+            if "programs/build" in text:
+                before, build, behind = re.fullmatch(r"(.*?\n)([^\n]*/build [^\n]*\n)(.*)", text, re.S).groups()
+                if shutil.which("riscv64-unknown-elf-gcc"):
+                    subprocess.run(["bash", "-eu", "-c", before + build], cwd=room, capture_output=True, timeout=PATIENCE, check=True)
+                if not own.exists() or own.read_bytes() != (FOLDER / "programs/hello.hex").read_bytes():
+                    shutil.copy(FOLDER / "programs/hello.hex", own)
+                text = before + behind
+            done = subprocess.run(["bash", "-euo", "pipefail", "-c", text], cwd=room, capture_output=True, text=True, timeout=PATIENCE)
+            wanted = blocks[number + 1][1] if number + 1 < len(blocks) and blocks[number + 1][0] == "" else ""
+            if done.returncode or done.stderr or done.stdout != wanted:
+                return f"{text[:60]!r}..: status {done.returncode}, {done.stdout[-200:]!r} {done.stderr[-200:]!r}, not {wanted!r}"
+        picture = (Path(room) / "pipeline.svg").read_bytes()
+        return None if picture == (TOP / "docs/rv32-pipeline.svg").read_bytes() else "the wave isn't docs/rv32-pipeline.svg"
+
+
 def faults(program):
     done = subprocess.run([sys.executable, FOLDER / "make_cores.py", "--check"], capture_output=True, text=True)
     yield "the cores are those that make_cores.py writes", done.stderr or None
@@ -302,6 +333,7 @@ def faults(program):
             yield f"{made:,} made instructions on {core} by {count} workers", fault(other_steps, program, core, made_program(made, made), count)
         yield f"hello on {core} from a state", fault(other_rows, program, core, image_of("hello"), 400, "1")
         yield f"traps of {core}", fault(many_traps, program, core)
+    yield "the commands of docs/RV32.md", fault(other_page, program)
 
 
 def main():
