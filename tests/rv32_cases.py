@@ -268,13 +268,18 @@ def traps():
 
 
 def many_traps(program, core):
-    """The first trap that a core tells in another way than the model, or none. `run` tells it, so that a trap costs one run."""
+    """The first trap that a core tells in another way than the model, or behind which it goes on; or none. `run` tells it, so that a trap costs one run."""
     for name, words in traps():
         wanted, cycle = wanted_log(core, words)
-        told = console.log_of(run(program, ["run"], joined(core, words, cycle + 20)).splitlines())
-        closed, own = (re.sub(r"stopped \d+", "stopped", each) for each in (told, wanted))
-        if closed != own:
+        trace = run(program, ["run"], joined(core, words, cycle + 20)).splitlines()
+        told = console.log_of(trace)
+        if told.rpartition("stopped")[0] != wanted.rpartition("stopped")[0] or told.split()[-1] != wanted.split()[-1]:
             return f"{name}: {told!r}, not {wanted!r}"
+        column = trace[0].split().index("io.exit.valid")
+        ends = [line.split()[0] for line in trace[1:] if line.split()[column] == "1"]
+        later = run(program, ["vcd", "-", "core.io.store.valid", *WATCHED[:1], "io.console.valid"], joined(core, words, cycle + 20))
+        if len(ends) != 1 or any(any(row) for row in [*rows_of(later)][int(ends[0]) + 1 :]):
+            return f"{name}: it goes on behind its end in cycle {ends}"
     return None
 
 
