@@ -4,7 +4,8 @@ ends; how each trap ends one; and that a run from a state with the program in me
 
 usage: rv32_cases.py PROGRAM [NAME..]
 
-As a script it compares the runs of these programs of examples/rv32/programs, or of all. Used by run_cases.py too, with hello, the CRC-32 and the rest.
+As a script it compares the runs of these programs of examples/rv32/programs, or of all, by one worker. Used by run_cases.py too, with hello, the CRC-32
+and the rest.
 """
 import importlib.util
 import random
@@ -345,7 +346,7 @@ def main():
     program, names = sys.argv[1], sys.argv[2:] or sorted(path.stem for path in (FOLDER / "programs").glob("*.hex"))
     told = []
     for name in names:
-        for case in program_faults(str(Path(program).resolve()), name, WORKERS):
+        for case in program_faults(str(Path(program).resolve()), name, WORKERS[:1]):
             told.append(case)
             print(f"FAILED {case[0]}: {case[1]}" if case[1] else f"passed {case[0]}", flush=True)
     failed = sum(why is not None for _, why in told)
