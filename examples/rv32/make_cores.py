@@ -825,8 +825,8 @@ def unfolded(text):
 
 
 def numbers(text):
-    """Hexadecimal literals in the spelling of FIRRTL."""
-    return re.sub(r"\(0x([0-9a-f]+)\)", r"(0h\1)", text)
+    """Literals in hexadecimal digits, as Chisel writes them."""
+    return re.sub(r"(UInt<\d+>)\((0x[0-9a-f]+|\d+)\)", lambda found: f"{found[1]}(0h{int(found[2], 0):x})", text)
 
 
 def circuit(name, core, latency):
