@@ -23,7 +23,7 @@ FOLDER = TOP / "examples/rv32"
 CORES = ("rv32", "rv32_pipe")
 # Numbers of workers, and how many instructions are made for a run by so many: by several a cycle takes long where they are more than the processors.
 WORKERS = ("1", "4")
-MADE = (12_500, 300)
+MADE = (12_500, 150)
 PROGRAMS = ("hello", "crc32")
 PATIENCE = 300
 WATCHED = [f"core.io.retire.{leaf}" for leaf in ("valid", "bits.pc", "bits.rd", "bits.value")]
@@ -95,7 +95,7 @@ def last_cycle(core, words, steps, end):
 
 
 def other_steps(program, core, words, workers):
-    """Why the instructions that a core retires aren't the model's, step by step, or what memory and registers hold in the end; or none."""
+    """Why the instructions that a core retires aren't the model's, step by step, or by one worker what memory and registers hold in the end; or none."""
     machine, steps, end = rv32_model.ran(words)
     text = joined(core, words, last_cycle(core, words, steps, end) + 5)
     retired = [tuple(row[1:]) for row in rows_of(run(program, ["vcd", "--workers", workers, "-", *WATCHED], text)) if row[0]]
@@ -104,7 +104,9 @@ def other_steps(program, core, words, workers):
             return f"step {number}: pc, register and value {told}, not {own}"
     if len(steps) != len(retired):
         return f"{len(retired)} steps, not {len(steps)}"
-    state = run(program, ["save", "--workers", workers, "-"], text)
+    if workers != "1":
+        return None
+    state = run(program, ["save", "-"], text)
     memory = bytes(int(value) for value in re.findall(r"(?m)^mem ram\.bytes\[.*\]\[.\] (\d+)$", state))
     registers = [int(value) for value in re.findall(r"(?m)^mem core\.registers\.x\[.*\] (\d+)$", state)]
     if memory != machine.memory or registers != machine.x:
