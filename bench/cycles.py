@@ -4,9 +4,9 @@ a cycle too. Or with --verilog: the time from text to trace, beside that of Icar
 usage: cycles.py PROGRAM [OTHER] [--circuits NAME..] [--workers P..] [--times N] [--seconds S] [--clock] [--callgrind]
        cycles.py PROGRAM --verilog [--times N] [--most S]
 
-OTHER is the program as it was before. Each figure is the least of N (5) runs, in which both take turns, without what a run of one cycle takes. By one
-worker it is the processors' time, which says more where a machine is busy, and by several the time of the clock; with --clock that for all. Runs have
-as many cycles as take S seconds (1), at most 1,000,000.
+OTHER is the program as it was before, and the ratio says how many times as fast PROGRAM is. Each figure is the least of N (5) runs, in which both take
+turns, without what a run of one cycle takes. By one worker it is the processors' time, which says more where a machine is busy, and by several the time of
+the clock; with --clock that for all. Runs have as many cycles as take S seconds (1), at most 1,000,000.
 """
 import argparse
 import hashlib
