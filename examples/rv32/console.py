@@ -39,5 +39,7 @@ def log_of(lines):
 if __name__ == "__main__":
     try:
         sys.stdout.buffer.write(log_of(sys.stdin).encode("latin-1"))
+        for _ in sys.stdin:  # so that the simulator can write all of it
+            pass
     except (KeyError, IndexError, ValueError):
         sys.exit("console: what came isn't the trace of a core")
