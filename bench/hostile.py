@@ -4,8 +4,8 @@ known of each.
 
 usage: hostile.py PROGRAM [--check]
 
-With --check each text of `check` that isn't known to be slow is only asked for its answer: the deepest ones under stacks of 8 MB and 4 MB, the others under 8 MB and within bounds of
-time and memory that a busy machine keeps as well; the last line is `N passed, M failed`.
+With --check each text of `check` that isn't known to be slow is only asked for its answer: the deepest ones under stacks of 8 MB and 4 MB, the
+others under 8 MB and within bounds of time and memory that a busy machine keeps as well; the last line is `N passed, M failed`.
 """
 import os
 import resource
@@ -333,7 +333,8 @@ def layers_of_vectors(size):
     lines = ["input clock : Clock", "input i : UInt<8>", "reg r : UInt<8>[200], clock", "wire v0 : UInt<8>[200]", "connect v0, r"]
     for k in range(1, size):
         before = f"v{k - 1}"
-        lines += [f"node d{k} = {before}[i]", f"node e{k} = {before}[d{k}]", f"wire v{k} : UInt<8>[200]", f"connect v{k}, {before}", f"connect v{k}[e{k}], d{k}"]
+        lines += [f"node d{k} = {before}[i]", f"node e{k} = {before}[d{k}]"]
+        lines += [f"wire v{k} : UInt<8>[200]", f"connect v{k}, {before}", f"connect v{k}[e{k}], d{k}"]
     return FRONT + module(lines + [f"connect r, v{size - 1}"])
 
 

@@ -35,7 +35,7 @@ b0010 !
 const COUNTER: [Row; 13] = [
     (&["run", "-"], 0, TRACE),
     (&["run", "--workers", "2", "circuit", "stimulus"], 0, TRACE),
-    (&["vcd", "--workers", "2", "-"], 0, DUMP),
+    (&["vcd", "-"], 0, DUMP),
     (&["log", "-"], 0, "ended 4\n"),
     (&["save", "-"], 0, STATE),
     (
