@@ -1,5 +1,5 @@
 """Prints how long an instruction and a cycle of code over a mix of all operations take, in the order that it is made in, in the order and
-the slots that a run gives it, and in order in windows, and the same for a loop in C over the same instructions that tests no number, and the ratio.
+the slots that a run gives it, and in order in windows, and the same for loops in C over the same instructions that test no number, and the ratio.
 
 usage: steps.py PROGRAM, which is firsim_bench
 """

@@ -13,7 +13,7 @@ use flat_code::{Code, Instr, Location, Op, Span};
 use std::alloc::{AllocError, Global};
 
 /// The code of a draft, which puts out what stands at these locations, as the outputs at these positions of the watch list, and owns the
-/// shared words of these spans. It has no runs.
+/// shared words of these spans. It has no runs, and publishes all.
 pub fn finish(
     alloc: Global,
     draft: Draft,
@@ -32,6 +32,7 @@ pub fn finish(
     ensures wides { IfOk result (λ code. code.wides ≡ draft.wides) }
     ensures shown { IfOk result (λ code. code.shown ≡ shown) }
     ensures words { IfOk result (λ code. code.words ≡ draft.words) }
+    ensures once { IfOk result (λ code. code.once ≡ 0) }
     ensures slots { IfOk result (λ code. code.slots ≡ draft.slots) }
     ensures most { IfOk result (λ code. code.most ≡ pushes draft.instrs) }
     ensures single { IfOk result (λ code. Single nothing code.ports code.wides code.instrs) }
@@ -47,6 +48,7 @@ pub fn finish(
         owned,
         slots: draft.slots,
         words: draft.words,
+        once: 0,
         most,
     })
 }

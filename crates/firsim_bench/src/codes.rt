@@ -13,7 +13,7 @@ use crate::codes::mix::mixed;
 use crate::codes::running::cycles;
 use crate::lines::Words;
 use code_order::{arrange, reorder};
-use flat_code::Code;
+use flat_code::{Code, with_runs};
 use std::alloc::Global;
 
 /// Does what the words say.
@@ -23,7 +23,7 @@ pub fn run(rt: &HostRuntime, words: &mut Words<'_>) -> Option<()> {
     if blocks == 0 || blocks > 1_000_000 {
         return None;
     }
-    let code = code_of(rt.alloc(), blocks, window)?;
+    let code = with_runs(rt.alloc(), code_of(rt.alloc(), blocks, window)?).ok()?;
     let Some(count) = words.word() else {
         return list(rt, &code);
     };

@@ -2,6 +2,7 @@
 //! contract that a step's effects are a function of the code, the shared words and the inputs, whatever the frame held.
 #![tactic(auto)]
 
+pub mod changes;
 pub mod code;
 pub mod evaluation;
 pub mod instr;
@@ -10,6 +11,7 @@ pub mod loads;
 pub mod running;
 pub mod runs;
 
+pub use changes::publishing_changes;
 pub use code::{Code, Span};
 pub use instr::{Form, Instr, Location, Op, Port, Region, Run, Wide};
 pub use loads::Loads;

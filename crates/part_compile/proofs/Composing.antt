@@ -1,5 +1,5 @@
 -- The code of a part from its layers, and the codes of parts one after the other.
-use Rattle.std.proofs.Common.{◌≡◌, ◌↔◌, ℕ, zero, suc, ◌+◌, ◌<◌, true, false, List, [], ◌∷◌, ◌++◌, map, take, length, slice_get, slice_index, get_or, Option, Some, None, sym, subst, ap, ◌∙◌, arith, All}
+use Rattle.std.proofs.Common.{◌≡◌, ◌↔◌, ℕ, zero, suc, ◌+◌, ◌<◌, ◌≤◌, true, false, List, [], ◌∷◌, ◌++◌, map, take, length, slice_get, slice_index, get_or, Option, Some, None, sym, subst, ap, ◌∙◌, arith, All}
 use Rattle.std.specs.Prelude.{Contains, IsTrue}
 use Rattle.std.proofs.lemmas.List.{take_more, length-append, length-map}
 use Rattle.std.proofs.lemmas.List.Elements.{Contains-get_or}
@@ -18,7 +18,8 @@ use Rattle.flat_code.specs.declared.code.Span.{Span}
 use Rattle.flat_code.specs.declared.instr.Instr.{Instr}
 use Rattle.flat_code.specs.Fine.{AreFine, IsPort, IsWide, nothing, written}
 use Rattle.flat_code.specs.Orders.{Single}
-use Rattle.flat_code.specs.Codes.{published_by, outputs_by}
+use Rattle.flat_code.specs.Meaning.{changed}
+use Rattle.flat_code.specs.Codes.{KeepsAll, published_by, outputs_by}
 use Rattle.cone_cutter.specs.Splits.{IsUnion}
 use Rattle.cone_cutter.proofs.Assembly.{cone_assigned, assigned_within}
 use Rattle.code_draft.specs.declared.draft.Draft.{Draft}
@@ -36,12 +37,12 @@ use Rattle.code_parts.specs.Knowing.{Knows}
 use Rattle.code_parts.proofs.Turning.{part_known}
 use Rattle.code_parts.specs.Parts.{IsPart}
 use Rattle.code_parts.proofs.Composed.{publishes, shows}
-use Rattle.partition_code.specs.Codes.{is_among, HasWordAmong, IsCodeOf, AreCodesOf}
+use Rattle.partition_code.specs.Codes.{register_words, is_among, HasWordAmong, IsCodeOf, AreCodesOf}
 use Rattle.code_parts.specs.declared.work.Made.{Made}
 use Rattle.code_parts.specs.PartRows.{sinks_of, IsWork, SoFar}
 use Rattle.part_compile.specs.Pieces.{HasDrivers}
 use Rattle.part_compile.specs.Frames.{TakesFewSlots, TakeFewSlots}
-use Rattle.part_compile.proofs.StateWords.{behind_all}
+use Rattle.part_compile.proofs.StateWords.{behind_registers, behind_all}
 
 false_true : false ≡ true → ⊥
 false_true e = cc
@@ -74,6 +75,21 @@ words_counted net words reads xs first e same =
     let long = reads_long net reads e in
     ap (λ l. slice_index l (length reads)) same ∙ (first.captured (length reads) (omega (arith, long)) ∙ (ap (captured_word net) long ∙ behind_all net))
 
+-- the word behind the last register
+pub registers_counted : (net : Net) (words : FirstWords) (xs : List ℕ) → AreFirst net words → xs ≡ words.registers → slice_index xs (length net.registers) ≡ register_words net
+registers_counted net words xs first same =
+    ap (λ l. slice_index l (length net.registers)) same ∙ (first.registers (length net.registers) (omega arith) ∙ behind_registers net)
+
+-- and it is a word of the state, or the one behind the last
+pub registers_first : (net : Net) (n m : ℕ) → n ≡ register_words net → m ≡ state_words net → n ≤ m
+registers_first net n m e f = omega (arith, e, f)
+
+-- The same code, but of registers it publishes the words that change alone.
+pub record PublishesChanges (net : Net) (code new : Code) : Type 0 where
+  pub kept : KeepsAll code new
+  pub publications : (words : List ℕ) (inputs : List Value) → published_by new words inputs ≡ changed (register_words net) words (published_by code words inputs)
+  pub outputs : (words : List ℕ) (inputs : List Value) → outputs_by new words inputs ≡ outputs_by code words inputs
+
 module _ (net : Net) (w : IsNet net) (watch : List ℕ) (part : CutPart) where
   module _ (sequence : List ℕ) (union : IsUnion net watch sequence part) where
     pub are_assignments : (x : ℕ) → Contains part.assignments x → IsAssigned net.leaves x
@@ -99,10 +115,10 @@ module _ (net : Net) (w : IsNet net) (watch : List ℕ) (part : CutPart) where
       known = subst (Knows net (Contains part.assignments)) (sym e) (part_known net w watch sequence part first order union all);
     }
 
-  pub code_is : (first later : Sources) (start assigned : Draft) (made : Made) (code : Code) → AreAllOf net first → start.instrs ≡ [] → start.words ≡ state_words net → Goes net.drivers part.assignments first start later assigned
+  pub code_is : (first later : Sources) (start assigned : Draft) (made : Made) (code new : Code) → AreAllOf net first → start.instrs ≡ [] → start.words ≡ state_words net → Goes net.drivers part.assignments first start later assigned
       → ((x : ℕ) → Contains part.assignments x → IsAssigned net.leaves x) → SoFar net watch later assigned part.sinks made → HasDraftsEffects code made.draft made.shown → code.positions ≡ made.positions → code.owned ≡ made.owned
-      → code.words ≡ made.draft.words → IsCodeOf net watch part code
-  code_is first later start assigned made code all none counted goes are so whole positions owned words =
+      → code.words ≡ made.draft.words → PublishesChanges net code new → IsCodeOf net watch part new
+  code_is first later start assigned made code new all none counted goes are so whole positions owned words now =
       let shown = map (slice_index watch) made.positions in
       let these = sinks_of net watch part.sinks in
       let p : IsPart net part.assignments (sinks_of net watch part.sinks) (map (slice_index watch) made.positions) code = record {
@@ -121,12 +137,13 @@ module _ (net : Net) (w : IsNet net) (watch : List ℕ) (part : CutPart) where
         shows = λ ws is F instant sol sees. so.values ws is F instant sol sees ∙ sym (map-map instant.leaf (slice_index watch) made.positions);
       } in
       record {
-        words = words ∙ (so.tells.words ∙ (goes.grows.words ∙ counted));
-        positions = positions ∙ so.positions;
-        owned = λ i. subst (λ (spans : List Span). IsTrue (is_among spans i) ↔ HasWordAmong net these i) (sym owned) (so.owned i);
-        publications = λ ws is rho cycle. publishes net part.assignments these shown code ws is cycle.given rho w p cycle.plain cycle.matched cycle.settled;
-        outputs = λ ws is rho cycle. shows net part.assignments these shown code ws is cycle.given rho w p cycle.plain cycle.matched cycle.settled
-            ∙ (map-map rho (slice_index watch) made.positions ∙ ap (map (λ k. rho (slice_index watch k))) (sym positions));
+        words = now.kept.words ∙ (words ∙ (so.tells.words ∙ (goes.grows.words ∙ counted)));
+        positions = now.kept.positions ∙ (positions ∙ so.positions);
+        owned = λ i. subst (λ (spans : List Span). IsTrue (is_among spans i) ↔ HasWordAmong net these i) (sym (now.kept.owned ∙ owned)) (so.owned i);
+        publications = λ ws is rho cycle. now.publications ws is
+            ∙ ap (changed (register_words net) ws) (publishes net part.assignments these shown code ws is cycle.given rho w p cycle.plain cycle.matched cycle.settled);
+        outputs = λ ws is rho cycle. now.outputs ws is ∙ (shows net part.assignments these shown code ws is cycle.given rho w p cycle.plain cycle.matched cycle.settled
+            ∙ (map-map rho (slice_index watch) made.positions ∙ ap (map (λ k. rho (slice_index watch k))) (sym (now.kept.positions ∙ positions))));
       }
 
 -- One code after the other

@@ -1,21 +1,18 @@
 -- The code of a part in pieces.
-use Rattle.std.proofs.Common.{◌≡◌, ◌⊎◌, ℕ, zero, suc, ◌<◌, ◌≤◌, true, false, List, [], ◌∷◌, length, slice_get, slice_index, Option, Some, None, option_and_then, Contains, refl, sym, subst, ap, ◌∙◌, arith, ⊎_elim, length-set}
+use Rattle.std.proofs.Common.{◌≡◌, ℕ, suc, ◌<◌, ◌≤◌, true, List, [], ◌∷◌, length, slice_get, slice_index, Option, Some, None, option_and_then, Contains, refl, sym, subst, ap, ◌∙◌, arith, ⊎_elim, length-set}
 use Rattle.std.proofs.lemmas.Bool.{cases_eq}
 use Rattle.ground_net.specs.declared.ground.Ground.{Ground}
 use Rattle.ground_net.specs.declared.net.Net.{Net}
 use Rattle.ground_net.specs.declared.net.Leaf.{Leaf}
-use Rattle.ground_net.specs.declared.net.NetRegister.{NetRegister}
 use Rattle.ground_net.specs.declared.net.CutPart.{CutPart}
 use Rattle.ground_net.specs.declared.net.Role.{Role}
 use Rattle.ground_net.specs.declared.net.Role.TheVariants as role
 use Rattle.ground_net.specs.Grounds.{mentions}
-use Rattle.ground_net.specs.Cones.{Sink, A_watched, sinks, mentioned_by, needed}
+use Rattle.ground_net.specs.Cones.{A_watched, sinks, mentioned_by, needed}
 use Rattle.ground_net.specs.Reads.{IsAssigned, driver_of, lone_driver, direct_reads}
 use Rattle.net_meaning.specs.Nets.{IsNet}
 use Rattle.net_meaning.proofs.Settling.{reads_mentions}
 use Rattle.flat_code.specs.declared.code.Code.{Code}
-use Rattle.flat_code.specs.declared.instr.Port.{Port}
-use Rattle.flat_code.specs.declared.instr.Wide.{Wide}
 use Rattle.flat_code.specs.declared.instr.Location.{Location}
 use Rattle.flat_code.specs.Fine.{among, slots_of}
 use Rattle.code_draft.specs.declared.draft.Draft.{Draft}
@@ -32,13 +29,12 @@ use Rattle.code_sequence.specs.Sequences.{driver_in}
 use Rattle.code_sequence.specs.Segmented.{with_frame, InSegments, AreSegments}
 use Rattle.code_sequence.proofs.Turns.{set_source, other_source}
 use Rattle.code_sequence.proofs.Segmenting.{found_by}
-use Rattle.code_draft.specs.Pieces.{IsPiece, Piece, AssignsPieces}
+use Rattle.code_draft.specs.Pieces.{AssignsPieces}
 use Rattle.code_sequence.specs.FromNets.{AreOf}
 use Rattle.code_parts.specs.Complete.{AreAllOf}
 use Rattle.cone_cutter.specs.Splits.{IsUnion}
 use Rattle.cone_cutter.proofs.Assembly.{assigned_within}
-use Rattle.cone_cutter.proofs.Lists.{none_in, first_in, later_in, cons_cases, stood}
-use Rattle.partition_code.specs.Codes.{sinks_of_part}
+use Rattle.cone_cutter.proofs.Lists.{none_in, cons_cases, stood}
 use Rattle.part_compile.specs.SlotBounds.{assignment_nodes, nodes_of}
 use Rattle.part_compile.specs.Pieces.{Once, InPieces}
 use Rattle.part_compile.proofs.Standing.{contains_first, contains_later}
@@ -47,7 +43,7 @@ use Rattle.part_compile.proofs.Turning.{turns_pieces}
 use Rattle.part_compile.proofs.Building.{in_pieces}
 use Rattle.code_parts.specs.declared.work.Made.{Made}
 use Rattle.part_compile.specs.Frames.{WatchesAssignments}
-use Rattle.part_compile.specs.Telling.{AreFound, AreTold, TellsInPieces}
+use Rattle.part_compile.specs.Telling.{AreFound, TellsInPieces}
 use Rattle.part_compile.proofs.Composing.{are_assignments}
 use Rattle.part_compile.proofs.Filtered.{from_filter}
 

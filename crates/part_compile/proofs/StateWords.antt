@@ -9,7 +9,7 @@ use Rattle.ground_net.specs.declared.net.NetRegister.{NetRegister}
 use Rattle.net_meaning.specs.Shapes.{Shape}
 use Rattle.net_meaning.specs.Cycles.{Capture, captures}
 use Rattle.net_meaning.specs.Nets.{register_shapes, captured_shapes, shape_or_none}
-use Rattle.net_meaning.specs.Words.{word_count, count_words, captured_word, memory_words, state_words}
+use Rattle.net_meaning.specs.Words.{word_count, count_words, register_word, captured_word, memory_words, state_words}
 
 one_or_two : (b : Bool) → (if b then 2 else 1) ≤ 2
 one_or_two true = omega arith
@@ -34,6 +34,12 @@ captured_two_each net =
     let long = length-map (captures net) (λ (c : Capture). shape_or_none (slice_get net.leaves c.leaf)) in
     let two = two_each (captured_shapes net) in
     omega (arith, long, two)
+
+-- the word behind the last register
+pub behind_registers : (net : Net) → register_word net (length net.registers) ≡ count_words (register_shapes net)
+behind_registers net =
+    let long = length-map net.registers (λ (r : NetRegister). shape_or_none (slice_get net.leaves r.leaf)) in
+    ap count_words (take_all (length net.registers) (register_shapes net) (omega (arith, long)))
 
 -- a state's words are few where those of its registers and memories are
 pub few_in_all : (net : Net) (behind reads : ℕ) → reads ≡ length (captures net) → count_words (register_shapes net) + sum_by memory_words net.memories ≤ behind → behind + 2 * reads < 2 ^ 32 → state_words net < 2 ^ 32

@@ -1,5 +1,5 @@
 -- What sinks evaluate is pieces, one sink after the other.
-use Rattle.std.proofs.Common.{◌≡◌, ◌⊎◌, ℕ, ◌≤◌, true, List, [], ◌∷◌, ◌++◌, flat_map, length, get_or, slice_get, Option, Some, None, Contains, refl, sym, subst, ap, ◌∙◌, arith, ⊎_elim, append-nil, All}
+use Rattle.std.proofs.Common.{◌≡◌, ◌⊎◌, ℕ, ◌≤◌, true, List, [], ◌∷◌, ◌++◌, get_or, slice_get, Option, Some, None, Contains, refl, sym, subst, ap, ◌∙◌, arith, ⊎_elim, append-nil, All}
 use Rattle.std.proofs.lemmas.List.Concat.{flat_map-append}
 use Rattle.ground_net.specs.declared.ground.Ground.{Ground}
 use Rattle.ground_net.specs.declared.net.Net.{Net}
@@ -17,7 +17,7 @@ use Rattle.code_emit.specs.declared.sources.Sources.{Sources}
 use Rattle.code_emit.specs.Spans.{leaf_slots, found_slots, AreFoundBefore}
 use Rattle.code_registers.specs.Groups.{found_groups}
 use Rattle.code_memories.specs.Groups.{IsMemoryGroup}
-use Rattle.code_draft.specs.Pieces.{StandsIn, AddsPieces}
+use Rattle.code_draft.specs.Pieces.{AddsPieces}
 use Rattle.code_draft.proofs.Building.{adds_not, adds_then}
 use Rattle.partition_code.specs.Codes.{sinks_of_part}
 use Rattle.part_compile.specs.SlotBounds.{sinks_read, sinks_nodes}

@@ -17,7 +17,7 @@ use code_parts::{Plan, Work, sources_of};
 use code_publish::finish;
 use code_sequence::assign_all;
 use cone_cutter::SinkAt;
-use flat_code::Code;
+use flat_code::{Code, publishing_changes};
 use ground_net::CutPart;
 use std::alloc::{AllocError, Global};
 
@@ -57,6 +57,9 @@ pub(crate) fn code_of(
         sources: &sources,
     };
     let made = made_of(alloc, &work, sinks, part, draft)?;
-    let code = finish(alloc, made.draft, made.shown, made.positions, made.owned)?;
+    let whole = finish(alloc, made.draft, made.shown, made.positions, made.owned)?;
+    let behind = net.registers.len();
+    let once = words.registers.as_slice()[behind];
+    let code = publishing_changes(whole, once);
     Ok(code)
 }

@@ -1,5 +1,5 @@
 -- What an epoch of the codes of one cut stands on, by places in lists.
-use Rattle.std.proofs.Common.{◌≡◌, ◌≢◌, ◌⊎◌, ⊎_elim, ℕ, ◌+◌, ◌^◌, ◌<◌, ◌≤◌, List, [], length, get_or, slice_get, slice_index, slice_index_or, Some, refl, sym, subst, ap, ◌∙◌, arith}
+use Rattle.std.proofs.Common.{◌≡◌, ⊎_elim, ℕ, ◌^◌, ◌<◌, ◌≤◌, List, [], length, slice_get, slice_index, slice_index_or, Some, sym, subst, ap, ◌∙◌, arith}
 use Rattle.std.specs.Prelude.{Contains}
 use Rattle.std.proofs.lemmas.Bool.{cases_lt, cases_eq}
 use Rattle.std.proofs.lemmas.List.{get_or_default}
@@ -12,13 +12,14 @@ use Rattle.phase_core.proofs.Lists.{at_below, at-get_or}
 use Rattle.net_meaning.specs.Words.{state_words}
 use Rattle.flat_code.specs.declared.code.Code.{Code}
 use Rattle.flat_code.specs.Codes.{published_by}
-use Rattle.flat_code.specs.Meaning.{pushes}
+use Rattle.flat_code.specs.Meaning.{published, pushes}
 use Rattle.flat_code.proofs.Frames.{published_few}
+use Rattle.flat_code.proofs.Changing.{changed_few}
 use Rattle.flat_code.specs.Codes.{zeros}
 use Rattle.cone_cutter.specs.Splits.{Rises}
-use Rattle.partition_code.specs.Codes.{AreWords, owner_in, AreOfOneCut, MayRun}
-use Rattle.partition_code.proofs.Owners.{beside, IsOwn, publications, owner_below}
-use Rattle.partition_code.proofs.Places.{position_below, positions_rise, place, one_code}
+use Rattle.partition_code.specs.Codes.{AreWords, AreOfOneCut, MayRun}
+use Rattle.partition_code.proofs.Owners.{beside, IsOwn, publications}
+use Rattle.partition_code.proofs.Places.{position_below, positions_rise, one_code}
 use Rattle.partition_code.proofs.Cycles.{cycle_of}
 
 pub slice_of : {A : Type 0} (xs : List A) (k : ℕ) (x : A) → get_elem? xs k ≡ some x → slice_get xs k ≡ Some x
@@ -45,10 +46,12 @@ stands s j lt = (j, lt, get_or_default s j (slice_index s j) 0 lt)
 
 few_publications : (code : Code) (words : List ℕ) (inputs : List Value) → code.most < 2 ^ 64 → length (published_by code words inputs) < 2 ^ 64
 few_publications code words inputs h =
-    between (length (published_by code words inputs)) (pushes code.instrs) code.most (2 ^ 64) (published_few code.ports code.wides words inputs code.instrs (zeros code)) code.at_most h
+    let all = published code.ports code.wides code.instrs words inputs (zeros code) in
+    between (length (published_by code words inputs)) (length all) (pushes code.instrs) code.most (2 ^ 64)
+    (changed_few code.once words all) (published_few code.ports code.wides words inputs code.instrs (zeros code)) code.at_most h
   where
-    between : (a b c d : ℕ) → a ≤ b → b ≤ c → c < d → a < d
-    between a b c d e f g = omega (arith, e, f, g)
+    between : (a b c d e : ℕ) → a ≤ b → b ≤ c → c ≤ d → d < e → a < e
+    between a b c d e f g h lt = omega (arith, f, g, h, lt)
 
 module _ (codes : List Code) (cut : AreOfOneCut codes) where
   pub some_code : 1 ≤ length codes

@@ -1,3 +1,4 @@
+mod Changes
 pub mod Owners
 pub mod Places
 pub mod Cycles
@@ -8,5 +9,6 @@ mod Left
 mod Writes
 mod Captures
 mod Nexts
+mod Registers
 pub mod StateCycles
 pub mod Whole

@@ -1,5 +1,5 @@
 -- Which code owns a word, and what the codes of one cut publish.
-use Rattle.std.proofs.Common.{◌≡◌, ◌⊎◌, ⊎_elim, ℕ, zero, suc, ◌+◌, ◌^◌, ◌<◌, ◌≤◌, Bool, true, false, List, [], ◌∷◌, length, slice_get, Option, Some, None, if◌then◌else◌, refl, sym, subst, ap, ◌∙◌, arith}
+use Rattle.std.proofs.Common.{◌≡◌, ⊎_elim, ℕ, zero, suc, ◌^◌, ◌<◌, ◌≤◌, Bool, true, false, List, [], ◌∷◌, length, slice_get, Some, if◌then◌else◌, refl, sym, subst, ap, ◌∙◌, arith}
 use Rattle.std.specs.Prelude.{Contains}
 use Rattle.std.proofs.lemmas.Option.{slice_get_within, slice_get_cases}
 use Rattle.bit_words.specs.declared.value.Value.{Value}
@@ -18,7 +18,8 @@ use Rattle.sink_effects.proofs.Blocks.{some_same, none_some}
 use Rattle.sink_effects.proofs.Lists.{Each, each_flat, item_at, among, from_filter_map, to_filter_map}
 use Rattle.sink_effects.proofs.Standing.{one_place, each_word}
 use Rattle.sink_effects.proofs.Told.{told_own}
-use Rattle.partition_code.specs.Codes.{sinks_of_part, owns, owner_in, HasWordAmong, IsCycle, AreOfOneCut}
+use Rattle.partition_code.proofs.Changes.{each_changed}
+use Rattle.partition_code.specs.Codes.{register_words, sinks_of_part, owns, owner_in, HasWordAmong, IsCycle, AreOfOneCut}
 
 -- an item of a list that is as long as another one
 pub beside : {A B : Type 0} (xs : List A) (ys : List B) (k : ℕ) (x : A) → length ys ≡ length xs → slice_get xs k ≡ Some x → (y : B) × (slice_get ys k ≡ Some y)
@@ -115,4 +116,7 @@ module _ (codes : List Code) (cut : AreOfOneCut codes) where
   publications k code e words inputs rho cycle =
       let part = beside codes cut.parts k code (sym cut.codes_of.counted) e in
       let it = cut.codes_of.each k part.0 code part.1 e in
-      subst (Each (IsOwn k)) (sym (it.publications words inputs rho cycle)) (told k part.0 part.1 (state_of TheNet words) (instant_of TheNet (state_of TheNet words) rho))
+      let st = state_of TheNet words in
+      let instant = instant_of TheNet st rho in
+      subst (Each (IsOwn k)) (sym (it.publications words inputs rho cycle))
+      (each_changed (IsOwn k) (register_words TheNet) words (sinks_told TheNet st instant (sinks_of_part TheNet cut.watch part.0)) (told k part.0 part.1 st instant))

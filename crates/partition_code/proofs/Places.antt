@@ -1,5 +1,5 @@
 -- The positions of the codes of one cut: each place of the watch list is of one output of one code.
-use Rattle.std.proofs.Common.{◌≡◌, ◌⊎◌, ⊎_elim, ℕ, zero, suc, ◌+◌, ◌<◌, ◌≤◌, Bool, true, false, List, [], ◌∷◌, ◌++◌, map, filter, length, slice_get, slice_index, nat_lt, Some, refl, sym, subst, ap, ◌∙◌, arith}
+use Rattle.std.proofs.Common.{◌≡◌, ℕ, suc, ◌+◌, ◌<◌, ◌≤◌, List, map, length, slice_get, nat_lt, Some, sym, subst, ◌∙◌, arith}
 use Rattle.std.specs.Prelude.{Contains}
 use Rattle.std.specs.List.{flat_map, range_with_len}
 use Rattle.std.proofs.lemmas.Bool.{ltb-true, lt-ltb}
@@ -10,7 +10,7 @@ use Rattle.ground_net.specs.Cones.{A_watched, sinks, sinks_at}
 use Rattle.flat_code.specs.declared.code.Code.{Code}
 use Rattle.cone_cutter.specs.Splits.{Rises}
 use Rattle.cone_cutter.proofs.Lists.{filter_from, filter_to, pairs_filter}
-use Rattle.partition_code.specs.Codes.{positions_of_part, AreOfOneCut}
+use Rattle.partition_code.specs.Codes.{AreOfOneCut}
 use Rattle.partition_code.proofs.Owners.{beside}
 
 -- the watched leaves are sinks

@@ -2,17 +2,17 @@
 use Rattle.std.specs.Prelude.{◌≡◌, ◌↔◌, ℕ, suc, ◌+◌, ◌^◌, ◌<◌, ◌≤◌, ◌&&◌, ◌||◌, nat_le, nat_lt, Bool, false, IsTrue, List, [], ◌∷◌, map, filter, filter_map, length, slice_get, slice_index, Some, Contains, if◌then◌else◌}
 use Rattle.std.specs.List.{range_with_len}
 use Rattle.bit_words.specs.declared.value.Value.{Value}
-use Rattle.phase_core.specs.declared.model.Publication.{Publication}
 use Rattle.ground_net.specs.declared.net.Net.{Net}
 use Rattle.ground_net.specs.declared.net.Ordered.{Ordered}
 use Rattle.ground_net.specs.declared.net.CutPart.{CutPart}
 use Rattle.ground_net.specs.Cones.{Sink, sinks}
 use Rattle.ground_net.specs.Reads.{IsOrder}
-use Rattle.net_meaning.specs.Cycles.{NetState, Inputs, Valuation, Settled, instant_of}
-use Rattle.net_meaning.specs.Nets.{IsNet}
-use Rattle.net_meaning.specs.Words.{state_words, state_of}
+use Rattle.net_meaning.specs.Cycles.{Inputs, Valuation, Settled, instant_of}
+use Rattle.net_meaning.specs.Nets.{IsNet, register_shapes}
+use Rattle.net_meaning.specs.Words.{count_words, state_words, state_of}
 use Rattle.flat_code.specs.declared.code.Code.{Code}
 use Rattle.flat_code.specs.declared.code.Span.{Span}
+use Rattle.flat_code.specs.Meaning.{changed}
 use Rattle.flat_code.specs.Codes.{published_by, outputs_by}
 use Rattle.code_sequence.specs.FromNets.{MatchInputs}
 use Rattle.sink_effects.specs.Effects.{sinks_told, HasWord}
@@ -54,14 +54,18 @@ pub record IsCycle (net : Net) (words : List ℕ) (inputs : List Value) (rho : V
   pub matched : MatchInputs net inputs given
   pub settled : Settled net (state_of net words) given rho
 
--- The code of a part of a net: whatever words a cycle begins with, it publishes exactly what the part's sinks leave, puts out the
--- settled values of the part's watched leaves, and owns the words of the part's sinks.
+-- how many words the registers have: these come first among the words of a state
+abbrev pub register_words : Net → ℕ
+register_words net = count_words (register_shapes net)
+
+-- The code of a part of a net: whatever words a cycle begins with, it publishes exactly what the part's sinks leave, but no word of a
+-- register that stays as it is, puts out the settled values of the part's watched leaves, and owns the words of the part's sinks.
 pub record IsCodeOf (net : Net) (watch : List ℕ) (part : CutPart) (code : Code) : Type 0 where
   pub words : code.words ≡ state_words net
   pub positions : code.positions ≡ positions_of_part watch part
   pub owned : (i : ℕ) → IsTrue (owns code i) ↔ HasWordAmong net (sinks_of_part net watch part) i
   pub publications : (words : List ℕ) (inputs : List Value) (rho : Valuation) → IsCycle net words inputs rho
-      → published_by code words inputs ≡ sinks_told net (state_of net words) (instant_of net (state_of net words) rho) (sinks_of_part net watch part)
+      → published_by code words inputs ≡ changed (register_words net) words (sinks_told net (state_of net words) (instant_of net (state_of net words) rho) (sinks_of_part net watch part))
   pub outputs : (words : List ℕ) (inputs : List Value) (rho : Valuation) → IsCycle net words inputs rho
       → outputs_by code words inputs ≡ map (λ k. rho (slice_index watch k)) code.positions
 

@@ -12,7 +12,7 @@ use Rattle.name_laws.proofs.Items.{circuit_names}
 use Rattle.state_texts.specs.Apart.{KeepsApart}
 use Rattle.state_texts.proofs.Accepted.{keeps_apart}
 use Rattle.item_leaves.specs.Finding.{HasItems}
-use Rattle.sim_top.proofs.Sound.{spelled_items}
+use Rattle.item_laws.proofs.Sound.{spelled_items}
 use Rattle.sim_engine.specs.Stages.{IsAccepted}
 use Rattle.sim_engine.proofs.Accepting.{accepted_circuit, fitted_well_formed}
 

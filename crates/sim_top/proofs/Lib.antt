@@ -4,6 +4,5 @@ pub mod Naming
 pub mod Replying
 pub mod Carrying
 pub mod EmptyText
-pub mod Sound
 pub mod Apart
 mod Small

@@ -58,6 +58,7 @@ fn made_of(
         owned: List::new(alloc),
         slots,
         words,
+        once: 0,
         most,
     }))
 }

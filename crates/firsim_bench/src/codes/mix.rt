@@ -56,6 +56,7 @@ pub fn mixed(alloc: Global, blocks: u32) -> Result<Option<Code>, AllocError>
         owned: List::new(alloc),
         slots,
         words: 4096,
+        once: 0,
         most,
     }))
 }

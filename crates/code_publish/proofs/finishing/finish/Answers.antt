@@ -19,11 +19,12 @@ invariant_of-result c =
       shown_last = λ k s lt. (c.requires.shown k s lt).written;
       each_shown = c.requires.positions;
       at_most = omega (arith, most);
+      once_there = omega arith;
       runs_right = subst (AreRuns d.instrs) (sym c.new.ensures) (λ k r lt. absurd (omega arith));
     }
 
 pub returns-clause-effects : goal.returns-clause-effects
-returns-clause-effects c = has_effects _ c.args.draft c.args.shown c.requires.draft refl refl refl refl refl
+returns-clause-effects c = has_effects _ c.args.draft c.args.shown c.requires.draft refl refl refl refl refl refl
 
 pub returns-clause-single : goal.returns-clause-single
 returns-clause-single c = c.requires.draft.single

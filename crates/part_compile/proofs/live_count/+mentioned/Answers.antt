@@ -1,4 +1,4 @@
-use Rattle.std.proofs.Common.{rules, ◌≡◌, ◌<◌, List, [], ◌∷◌, length, map, sym, arith}
+use Rattle.std.proofs.Common.{◌<◌, [], ◌∷◌, length, map, sym, arith}
 use Rattle.std.proofs.lemmas.Grind.{common_steps}
 use Rattle.ground_net.specs.declared.ground.Ground.{the_lemmas}
 use Rattle.ground_net.specs.Grounds.{mentions, joined}

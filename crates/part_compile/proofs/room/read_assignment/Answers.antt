@@ -1,4 +1,4 @@
-use Rattle.std.proofs.Common.{rules, ◌≡◌, Some, ap}
+use Rattle.std.proofs.Common.{rules, ◌≡◌}
 use Rattle.ground_net.specs.Reads.{direct_reads}
 use Rattle.ground_net.specs.Grounds.{mentions}
 use Rattle.part_compile.proofs.Walking.{reads_by}

@@ -1,4 +1,4 @@
-use Rattle.std.proofs.Common.{rules, sym, ap}
+use Rattle.std.proofs.Common.{ap}
 use Rattle.ground_net.specs.Cones.{mentioned_by_reset}
 use Rattle.part_compile.proofs.Marks.{reads_then}
 use Rattle.part_compile.proofs.Walking.{reads_by}

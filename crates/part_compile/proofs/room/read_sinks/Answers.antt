@@ -1,8 +1,7 @@
-use Rattle.std.proofs.Common.{◌≡◌, ◌<◌, List, Some, length, map, flat_map, slice_get, slice_index, slice_index_or, Contains, refl, sym, subst, ap, ◌∙◌, arith}
+use Rattle.std.proofs.Common.{◌≡◌, ◌<◌, Some, length, flat_map, slice_get, slice_index, Contains, refl, sym, subst, arith}
 use Rattle.std.specs.Prelude.{filter_map}
 use Rattle.std.proofs.lemmas.Option.{slice_get_read}
 use Rattle.ground_net.specs.Cones.{needs, sinks}
-use Rattle.cone_cutter.specs.declared.sinks.SinkAt.{SinkAt}
 use Rattle.cone_cutter.specs.Rows.{sink_of}
 use Rattle.part_compile.specs.Rooms.{read_by_sinks}
 use Rattle.part_compile.specs.Counts.{ReadsMore}

@@ -14,15 +14,17 @@ pub returns-in-Err-NoMemory-clause-logged : goal.returns-in-Err-NoMemory-clause-
 returns-in-Err-NoMemory-clause-logged g c = let t = c.in-Err-NoMemory.ensures.logged in (t.0, t.1, run_cut 6 _ _ _ (inr refl) t.3)
 
 pub simulate_log-requires : goal.simulate_log-requires
-simulate_log-requires g c κs within =
+simulate_log-requires g c =
     let l = c.requires.loggable in
-    let b = l.is_built in
-    record {
-      formed = fitted_well_formed l.text _ b.accepted.clocked.driven.fits;
-      items = accepted_items l.text _ b.accepted;
-      serves = b.ordered.serves;
-      planned = log_planned _ _ l;
-      said = b.ordered.serves.of.is.words;
-      some = c.requires.some;
-      few = c.requires.most;
-    }
+    let b = l.is_built in (
+      c.type_bounds.sync-R,
+      (c.type_bounds.sync-G, record {
+        formed = fitted_well_formed l.text _ b.accepted.clocked.driven.fits;
+        items = accepted_items l.text _ b.accepted;
+        serves = b.ordered.serves;
+        planned = log_planned _ _ l;
+        said = b.ordered.serves.of.is.words;
+        some = c.requires.some;
+        few = c.requires.most;
+      }),
+    )

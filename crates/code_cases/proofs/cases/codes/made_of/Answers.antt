@@ -26,5 +26,6 @@ invariant_of-result c =
       shown_last = subst (λ x. ShownLast wides x instrs) (sym c.new-4.ensures) (λ k d lt. absurd (omega arith));
       each_shown = ap (λ (x : List ℕ). length x) c.new-5.ensures ∙ sym (ap (λ (x : List Location). length x) c.new-4.ensures);
       at_most = omega (arith, few, count);
+      once_there = omega arith;
       runs_right = subst (AreRuns instrs) (sym c.new.ensures) (λ k r lt. absurd (omega arith));
     }
