@@ -53,7 +53,7 @@ const COUNTER: [Row; 13] = [
     (&["simulate", "circuit"], 1, "usage\n"),
     (&["run", "circuit"], 2, "circuit NoStimulus 1:1\n"),
     (&["run", "circuit", "state"], 3, "stimulus BadLine 1:1\n"),
-    (&["save", "-", "stimulus"], 3, "state BadLine 1:1\n"),
+    (&["save", "-", "stimulus"], 3, "state NameOrder 1:1\n"),
 ];
 
 /// Of the circuit that prints.
@@ -111,26 +111,34 @@ fn fail_in_turn<R: Threads + Wait + Sync + Abort>(
             calls = calls.saturating_add(calls_for(outside, word));
         }
     }
-    let mut failing = outside;
-    failing.room = bytes.len();
+    let whole = Outside {
+        room: bytes.len(),
+        ..outside
+    };
     let nothing: &[u8] = &[];
     for call in 0..calls {
         let fails = [call + 1];
-        failing.read = &fails;
-        expect(rt, alloc, words, failing, (4, nothing))?;
+        let read = Outside {
+            read: &fails,
+            ..whole
+        };
+        expect(rt, alloc, words, read, (4, nothing))?;
     }
     let fails = [calls.saturating_add(1)];
-    failing.read = &fails;
-    expect(rt, alloc, words, failing, (status, bytes))?;
+    let read = Outside {
+        read: &fails,
+        ..whole
+    };
+    expect(rt, alloc, words, read, (status, bytes))?;
     for room in 0..bytes.len() {
         let prefix = &bytes[..room];
-        failing.room = room;
-        expect(rt, alloc, words, failing, (5, prefix))?;
+        expect(rt, alloc, words, Outside { room, ..outside }, (5, prefix))?;
         let fails = [room as u64 + 1];
-        failing.room = bytes.len();
-        failing.write = &fails;
-        expect(rt, alloc, words, failing, (5, prefix))?;
-        failing.write = &[];
+        let write = Outside {
+            write: &fails,
+            ..whole
+        };
+        expect(rt, alloc, words, write, (5, prefix))?;
     }
     Ok(())
 }

@@ -88,21 +88,24 @@ pub fn holding<'a>(circuit: &'a str, stimulus: &'a str) -> Outside<'a> {
     }
 }
 
+/// A text with its name.
+fn named(alloc: Global, name: &str, text: &[u8]) -> Result<(String, Vec<u8>), AllocError> {
+    Ok((
+        String::from_str(alloc, name)?,
+        Vec::from_slice(alloc, text)?,
+    ))
+}
+
 /// The shelf.
 fn shelf(alloc: Global, outside: Outside<'_>) -> Result<ShelfMemory, AllocError> {
     let mut joined = String::from_str(alloc, outside.circuit)?;
     joined.push_str("%stimulus\n")?;
     joined.push_str(outside.stimulus)?;
     let mut texts = Vec::new(alloc);
-    for (name, text) in [
-        ("-", joined.as_str()),
-        ("circuit", outside.circuit),
-        ("stimulus", outside.stimulus),
-        ("state", outside.state),
-    ] {
-        let name = String::from_str(alloc, name)?;
-        texts.push((name, Vec::from_slice(alloc, text.as_bytes())?))?;
-    }
+    texts.push(named(alloc, "-", joined.as_bytes())?)?;
+    texts.push(named(alloc, "circuit", outside.circuit.as_bytes())?)?;
+    texts.push(named(alloc, "stimulus", outside.stimulus.as_bytes())?)?;
+    texts.push(named(alloc, "state", outside.state.as_bytes())?)?;
     let fails = Vec::from_slice(alloc, outside.read)?;
     Ok(ShelfMemory::new(texts, 1, fails))
 }
