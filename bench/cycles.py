@@ -4,9 +4,9 @@ a cycle too. Or with --verilog: the time from text to trace, beside that of Icar
 usage: cycles.py PROGRAM [OTHER] [--circuits NAME..] [--workers P..] [--times N] [--seconds S] [--clock] [--callgrind]
        cycles.py PROGRAM --verilog [--times N] [--most S]
 
-OTHER is the program as it was before. Each figure is the least of N (5) runs, in which both take turns, without what a run of one cycle takes. By one
-worker it is the processors' time, which says more where a machine is busy, and by several the time of the clock; with --clock that for all. Runs have
-as many cycles as take S seconds (1), at most 1,000,000.
+OTHER is the program as it was before, and the ratio says how many times as fast PROGRAM is. Each figure is the least of N (5) runs, in which both take
+turns, without what a run of one cycle takes. By one worker it is the processors' time, which says more where a machine is busy, and by several the time of
+the clock; with --clock that for all. Runs have as many cycles as take S seconds (1), at most 1,000,000.
 """
 import argparse
 import hashlib
@@ -156,14 +156,14 @@ def builds(tool, room, file, defined, times):
 
 
 def spans(run, room, tool, asked):
-    """The seconds of runs of 1, 1,000, 20,000 and 1,000,000 cycles; the last from that of 20,000 where it would take too long, which is said."""
-    took = {}
+    """The seconds of runs of 1, 1,000 and 1,000,000 cycles; the last from a shorter run where it would take too long, which is said."""
+    took, last = {}, 1
     for cycles in (1, 1_000, 20_000, MOST):
-        if cycles == MOST and took[20_000] * 50 > asked.most:
-            return took | {MOST: took[1] + (took[20_000] - took[1]) * 50}, True
+        if cycles > 1_000 and took[last] * cycles / last > asked.most:
+            return took | {MOST: took[1] + (took[last] - took[1]) * (MOST - 1) / (last - 1)}, True
         out = room / f"{tool}.{cycles}.trace"
         took[cycles] = min(used(*run(cycles), out=out)[1] for _ in range(1 if cycles == MOST else asked.times))
-        same = room / f"firsim.{cycles}.trace"
+        same, last = room / f"firsim.{cycles}.trace", cycles
         if same.exists() and out.read_bytes() != same.read_bytes():
             raise SystemExit(f"cycles: the traces of {tool} differ")
     return took, False
@@ -193,7 +193,8 @@ def beside_verilog(asked):
                 if tool in tools:
                     first, own = figures["firsim"]
                     quicker = "never" if each >= own else f"{max(1, (start - first) / (own - each)):,.0f}"
-                print(f"{name:20}{tool:>12}{start:10.3f}{each * 1e6:12.2f}{build + took[1_000]:10.2f}{about + format(build + took[MOST], '.1f'):>14}{quicker:>16}", flush=True)
+                whole = about + format(build + took[MOST], ".1f")
+                print(f"{name:20}{tool:>12}{start:10.3f}{each * 1e6:12.2f}{build + took[1_000]:10.2f}{whole:>14}{quicker:>16}", flush=True)
 
 
 def main():

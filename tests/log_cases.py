@@ -66,20 +66,20 @@ def stopped_counters():
 
 
 def many_values():
-    """Two lines of 4,095 values, so that an epoch has 512 cycles; they print in three of them, and a `stop` is enabled in the last cycle of an epoch or
-    in the first one of the next."""
+    """Two lines of 4,095 values, so that an epoch has 511 cycles; they print in few of them, and a `stop` is enabled in the last cycle of an epoch or in
+    the first one of the next."""
     vector = [(k * 37 + 5) % 251 for k in range(4_095)]
-    for at in (511, 512, 1_023):
+    for at in (510, 511):
         start = FRONT + MAIN + lines("reg r : UInt<16>, clock", "connect r, tail(add(r, UInt<16>(1)), 1)", "node hit = eq(bits(r, 7, 0), UInt<8>(255))")
         shown = ", ".join(f"xor(tail(r, 8), UInt<8>({value}))" for value in vector)
         items = lines(f'printf(clock, hit, "{"%x" * 4_095}\\n", {shown})', f'printf(clock, eq(r, UInt<16>({at})), "{"%c" * 4_095}", {shown})')
         stop = lines(f"stop(clock, eq(r, UInt<16>({at})), {at})")
         told = []
-        for cycle in range(1_030):
+        for cycle in range(520):
             text = "".join(f"{value ^ cycle % 256:x}" for value in vector) + "\n" if cycle % 256 == 255 else ""
             text += "".join(chr(value ^ cycle % 256) for value in vector) if cycle == at else ""
             told.append((text, [at] if cycle == at else []))
-        yield f"8,193 leaves of items, stopped in cycle {at}", f"{start}{items}{stop}%stimulus\ncycles 1030\n", logged(1_030, told)
+        yield f"8,193 leaves of items, stopped in cycle {at}", f"{start}{items}{stop}%stimulus\ncycles 520\n", logged(520, told)
 
 
 def nothing_printed():
@@ -97,7 +97,8 @@ def nothing_printed():
 TWICE = (
     FRONT
     + lines("module Leaf :", indent=2)
-    + lines("input clock : Clock", "input name : UInt<8>", "input at : UInt<8>", 'printf(clock, UInt<1>(1), "[%c%d", name, at)', 'printf(clock, bits(at, 0, 0), "!]")')
+    + lines("input clock : Clock", "input name : UInt<8>", "input at : UInt<8>")
+    + lines('printf(clock, UInt<1>(1), "[%c%d", name, at)', 'printf(clock, bits(at, 0, 0), "!]")')
     + lines("when not(bits(at, 0, 0)) :")
     + lines('printf(clock, UInt<1>(1), "]") : brackets', indent=6)
     + lines("stop(clock, eq(at, UInt<8>(6)), 66)")
@@ -203,13 +204,15 @@ def lift(rows):
 QUEUE = (
     FRONT
     + lines("module Queue :", indent=2)
-    + lines("input clock : Clock", "input id : UInt<1>", "input put : UInt<1>", "input take : UInt<1>", "input word : UInt<8>", "output given : UInt<1>", "output head : UInt<8>")
+    + lines("input clock : Clock", "input id : UInt<1>", "input put : UInt<1>", "input take : UInt<1>", "input word : UInt<8>")
+    + lines("output given : UInt<1>", "output head : UInt<8>")
     + lines("mem words :")
     + lines("data-type => UInt<8>", "depth => 4", "read-latency => 0", "write-latency => 1", "reader => r", "writer => w", "read-under-write => undefined", indent=6)
     + lines("reg first : UInt<2>, clock", "reg count : UInt<3>, clock", "node empty = eq(count, UInt<3>(0))", "node full = eq(count, UInt<3>(4))")
     + lines("node takes = and(take, not(empty))", "node puts = and(put, not(full))")
     + lines("connect words.r.clk, clock", "connect words.r.en, UInt<1>(1)", "connect words.r.addr, first")
-    + lines("connect words.w.clk, clock", "connect words.w.en, puts", "connect words.w.addr, tail(add(first, bits(count, 1, 0)), 1)", "connect words.w.data, word", "connect words.w.mask, UInt<1>(1)")
+    + lines("connect words.w.clk, clock", "connect words.w.en, puts", "connect words.w.addr, tail(add(first, bits(count, 1, 0)), 1)")
+    + lines("connect words.w.data, word", "connect words.w.mask, UInt<1>(1)")
     + lines("connect given, takes", "connect head, words.r.data")
     + lines("when takes :")
     + lines("connect first, tail(add(first, UInt<2>(1)), 1)", 'printf(clock, UInt<1>(1), "%d gives %x of %d\\n", id, words.r.data, count) : taken', indent=6)

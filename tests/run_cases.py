@@ -18,6 +18,7 @@ import dump_cases
 import log_cases
 import minute
 import refine_cases
+import rv32_cases
 import state_cases
 import wave_cases
 
@@ -292,6 +293,7 @@ def main():
     faults += dump_cases.faults(program)
     faults += state_cases.faults(program)
     faults += log_cases.faults(program)
+    faults += rv32_cases.faults(program)
     failed = [(name, fault) for name, fault in faults if fault]
     for name, fault in failed:
         print(f"FAILED {name}: {fault}")

@@ -1,7 +1,7 @@
 -- Where no AsyncReset is declared and no source is an `asAsyncReset`, nothing is reached.
 use Rattle.std.proofs.Common.{arith, ◌≡◌, ℕ, zero, suc, ◌+◌, Bool, true, false, ◌||◌, List, [], ◌∷◌, ◌++◌, map, take, drop, length, Option, Some, None, refl, sym, ap, ap₂, ◌∙◌, subst, nat_eq, is_some, if◌then◌else◌}
 use Rattle.std.proofs.lemmas.Grind.{common_steps}
-use Rattle.std.specs.Prelude.{flat_map, option_map, option_and_then, find, Contains}
+use Rattle.std.specs.Prelude.{◌==◌, flat_map, option_map, option_and_then, find, Contains}
 use Rattle.std.specs.List.{range_with_len, list_any}
 use Rattle.std.specs.Map.{lookup}
 use Rattle.bit_words.specs.declared.value.Kind.{Kind as Sign}
@@ -164,7 +164,7 @@ along_placed (p ∷ ps) r h = along_placed ps (option_and_then (suffix_among p.0
 field_placed : (name : ℕ) (fields : List Field) (spots : List Spot) → Placed spots → any_of (map field_holds fields) ≡ false → MayPlace (field_among name fields spots)
 field_placed name [] spots h e = tt
 field_placed name (f ∷ fs) spots h e =
-    placed_if (nat_eq f.name.id name) (Some (reach f.typ (take (size f.typ) spots))) (field_among name fs (drop (size f.typ) spots))
+    placed_if (f.name.id == name) (Some (reach f.typ (take (size f.typ) spots))) (field_among name fs (drop (size f.typ) spots))
     (placed_take (size f.typ) spots h, sym (holds_field f) ∙ or_left (field_holds f) _ e)
     (field_placed name fs (drop (size f.typ) spots) (placed_drop (size f.typ) spots h) (or_right (field_holds f) _ e))
 

@@ -77,7 +77,7 @@ Step = Reach → Option Reach
 -- the places of the first field of this name
 abbrev pub field_among : ℕ → List Field → List Spot → Option Reach
 field_among name [] spots = None
-field_among name (f ∷ fs) spots = if nat_eq f.name.id name then Some (reach f.typ (take (size f.typ) spots)) else field_among name fs (drop (size f.typ) spots)
+field_among name (f ∷ fs) spots = if f.name.id == name then Some (reach f.typ (take (size f.typ) spots)) else field_among name fs (drop (size f.typ) spots)
 
 abbrev pub field_of : ℕ → List Spot → Shape-F Shape Field FirType → Option Reach
 field_of name spots (Shape-F.Bundle fields) = field_among name fields spots

@@ -18,13 +18,16 @@ simulate_log-requires g c =
     let l = c.requires.loggable in
     let b = l.is_built in (
       c.type_bounds.sync-R,
-      (c.type_bounds.sync-G, record {
-        formed = fitted_well_formed l.text _ b.accepted.clocked.driven.fits;
-        items = accepted_items l.text _ b.accepted;
-        serves = b.ordered.serves;
-        planned = log_planned _ _ l;
-        said = b.ordered.serves.of.is.words;
-        some = c.requires.some;
-        few = c.requires.most;
-      }),
+      (
+        c.type_bounds.sync-G,
+        record {
+          formed = fitted_well_formed l.text _ b.accepted.clocked.driven.fits;
+          items = accepted_items l.text _ b.accepted;
+          serves = b.ordered.serves;
+          planned = log_planned _ _ l;
+          said = b.ordered.serves.of.is.words;
+          some = c.requires.some;
+          few = c.requires.most;
+        },
+      ),
     )

@@ -1,0 +1,5 @@
+-- what a reader must believe
+pub mod Itself
+-- what the bodies keep
+pub mod Layers
+pub mod Walked

@@ -1,0 +1,31 @@
+//! The circuit in which each `Reset` is resolved.
+
+ghost use Rattle.std.specs.Prelude.{IfOk};
+ghost use Rattle.reset_feeds.specs.Resolved.{IsResolved};
+ghost use Rattle.reset_resolution.specs.Itself.{or_itself};
+
+use crate::gathering::feeds_of;
+use crate::sources::has_source;
+use fir_tree::Circuit;
+use reset_feeds::laws::circuits_without_sources_resolve_to_themselves;
+use reset_search::search::reached_in;
+use reset_search::tree::resolved_tree;
+use std::alloc::{AllocError, Global};
+
+/// The circuit with `AsyncReset` for each `Reset` that a chain of feeds leads to from an AsyncReset leaf, or `None` where it stays as it is
+/// (FIRRTL specification 3.0, "Reset Type"). It stays where no AsyncReset is declared and no source is an `asAsyncReset`.
+///
+/// Takes time and memory in proportion to the circuit and its types, and for each connect and each node to its type: no memory where nothing is a
+/// source. More than 16,000,000 feeds, or places of the text or of nodes, are a want of memory.
+pub fn resolve_resets(alloc: Global, circuit: &Circuit) -> Result<Option<Circuit>, AllocError>
+    ensures { IfOk result (λ tree. IsResolved circuit.now (or_itself circuit.now tree)) }
+{
+    circuits_without_sources_resolve_to_themselves();
+    if !has_source(circuit) {
+        return Ok(None);
+    }
+    let feeds = feeds_of(alloc, circuit)?;
+    let marks = reached_in(alloc, &feeds)?;
+    let tree = resolved_tree(alloc, &marks, circuit)?;
+    Ok(Some(tree))
+}
