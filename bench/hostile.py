@@ -1,10 +1,11 @@
 """Prints a table: time and peak memory of `check` on small texts that ask for much, each at a size and at twice the size, with the ratio
-of the times; all under a stack of 8 MB.
+of the times; all under a stack of 8 MB. Then the same of `cut` on circuits whose cones overlap, and of texts that are known to be slow, with what is
+known of each.
 
 usage: hostile.py PROGRAM [--check]
 
-With --check each text is only asked for its answer: the deepest ones under stacks of 8 MB and 4 MB, the others under 8 MB and within bounds of
-time and memory that a busy machine keeps as well; the last line is `N passed, M failed`.
+With --check each text of `check` that isn't known to be slow is only asked for its answer: the deepest ones under stacks of 8 MB and 4 MB, the
+others under 8 MB and within bounds of time and memory that a busy machine keeps as well; the last line is `N passed, M failed`.
 """
 import os
 import resource
@@ -21,6 +22,8 @@ MEGABYTE = 1_048_576
 # What no text may take, whatever else the machine does.
 MOST_SECONDS = 20
 MOST_MEGABYTES = 1_000
+# So that no text takes the machine's memory.
+MOST_ADDRESSES = 4 << 30
 
 ACCEPTED = "ok"
 TOO_LARGE = "circuit TooLarge 2:9"
@@ -288,6 +291,103 @@ def wide_instances(size):
     )
 
 
+def ports_of_long_names(size):
+    return FRONT + module([f"input {'n' * 1000}{k} : UInt<1>" for k in range(size)])
+
+
+def arms(size):
+    """A chain of so many arms, of which each crosses the conditions before it."""
+    lines = ["input a : UInt<16>", "output o : UInt<16>", "connect o, a"]
+    for k in range(size):
+        lines += [f"{'else ' if k else ''}when eq(a, UInt<16>({k})) :", f"  connect o, UInt<16>({k})"]
+    return lines
+
+
+def reached_arms(size):
+    return FRONT + module(arms(size))
+
+
+def unreached_arms(size):
+    return FRONT + module(arms(size), "N") + module(["skip"])
+
+
+# Texts for `cut`.
+
+
+def chain_of_nodes(size):
+    return ["input clock : Clock", "input a : UInt<1>", "node n0 = a"] + [f"node n{k} = xor(n{k - 1}, a)" for k in range(1, size)]
+
+
+def registers_under_chain(size):
+    """Registers that are set where the last node of a chain is 1."""
+    registers = [f"reg r{k} : UInt<1>, clock" for k in range(size)]
+    return FRONT + module(chain_of_nodes(size) + registers + [f"when n{size - 1} :"] + [f"  connect r{k}, a" for k in range(size)])
+
+
+def register_on_each_node(size):
+    return FRONT + module(chain_of_nodes(size) + [line for k in range(size) for line in (f"reg r{k} : UInt<1>, clock", f"connect r{k}, n{k}")])
+
+
+def layers_of_vectors(size):
+    """Vectors of 200 elements, one of which is replaced by one that two indices within each other choose."""
+    lines = ["input clock : Clock", "input i : UInt<8>", "reg r : UInt<8>[200], clock", "wire v0 : UInt<8>[200]", "connect v0, r"]
+    for k in range(1, size):
+        before = f"v{k - 1}"
+        lines += [f"node d{k} = {before}[i]", f"node e{k} = {before}[d{k}]"]
+        lines += [f"wire v{k} : UInt<8>[200]", f"connect v{k}, {before}", f"connect v{k}[e{k}], d{k}"]
+    return FRONT + module(lines + [f"connect r, v{size - 1}"])
+
+
+# Texts that are known to be slow.
+
+HASH_SEED, HASH_FACTOR, HASH_MASK = 0x243F_6A88_85A3_08D3, 0x9E37_79B9_7F4A_7C15, (1 << 64) - 1
+LETTERS = set(b"abcdefghijklmnopqrstuvwxyzABCDEFGHIJKLMNOPQRSTUVWXYZ0123456789_")
+
+
+def folded(first, second):
+    """The product of two numbers of 64 bits, its halves joined: 0 where one of them is 0, whatever the other is."""
+    product = first * second
+    return product & HASH_MASK ^ product >> 64
+
+
+def front_of_colliding():
+    """24 letters behind which all names of 8 more have the hash 0: the third eight are what the default hasher of the kit has made of the first two,
+    and its seed is the same in each run."""
+    number = 0
+    while True:
+        block = f"n{number:015d}".encode()
+        first, second = (int.from_bytes(block[at : at + 8], "little") for at in (0, 8))
+        made = folded(first ^ HASH_SEED + 32 & HASH_MASK, second ^ HASH_FACTOR).to_bytes(8, "little")
+        if LETTERS.issuperset(made):
+            return (block + made).decode()
+        number += 1
+
+
+def wires_of_colliding_names(size):
+    front = front_of_colliding()
+    return FRONT + module([f"wire {front}{k:08d} : UInt<1>" for k in range(size)] + [f"invalidate {front}{k:08d}" for k in range(size)])
+
+
+def colliding_lengths(size):
+    """Vectors of `UInt<1>` whose lengths have one hash, as keys of the classes of types."""
+    low = folded(HASH_SEED, HASH_FACTOR ^ 8) + 16 & HASH_MASK
+    return FRONT + module([f"wire w{k} : UInt<1>[{k + 1 << 64 | low}]" for k in range(size)])
+
+
+def element_to_element(size):
+    lines = ["input clock : Clock", "input i : UInt<16>"] + [f"reg {name} : UInt<8>[{size}], clock" for name in "vw"]
+    return FRONT + module(lines + ["connect w[i], v[i]"])
+
+
+def layers_in_one_statement(size):
+    """Layers of 100 elements as above, without nodes for what the indices choose."""
+    lines = ["input clock : Clock", "input i : UInt<8>", "reg r : UInt<8>[100], clock", "wire v0 : UInt<8>[100]", "connect v0, r"]
+    for k in range(1, size):
+        before = f"v{k - 1}"
+        lines += [f"wire v{k} : UInt<8>[100]", f"connect v{k}, {before}", f"connect v{k}[{before}[0]], {before}[{before}[i]]"]
+    return FRONT + module(lines + [f"connect r, v{size - 1}"])
+
+
 DEEP = {
     "127 fields and an index, 128 deep": deep_reference(128),
     "128 lengths around a bundle, 128 deep": deep_type(128),
@@ -337,21 +437,45 @@ ROWS = {
     "n operands on one line": (one_line, 65_000, ACCEPTED),
     "n wires, connects and nodes": (dense_statements, 6_000, ACCEPTED),
     "n instances of a module with 200 ports": (wide_instances, 1_000, TOO_LARGE),
+    "n ports of main with names of 1,000 letters": (ports_of_long_names, 500, ACCEPTED),
+    "a chain of n arms": (reached_arms, 1_400, TOO_LARGE),
+    "a chain of n arms that main doesn't reach": (unreached_arms, 5_600, ACCEPTED),
+}
+
+CHECK, CUT, REFINE = ("check",), ("cut", "--workers", "2"), ("refine", "--workers", "2")
+
+# Only measured: the command, the text, the size, and what is known of it, where it isn't in proportion.
+CONES = "each cone is walked once to place its sink"
+COLLIDING = "the default hasher of the kit has a fixed seed"
+COPIES = "each element has a copy of the other side"
+KNOWN = {
+    "n layers of 200 elements that index one another": (CHECK, layers_of_vectors, 75, None),
+    "n layers of 200 elements, `cut`": (CUT, layers_of_vectors, 75, None),
+    "n registers under an enable behind n nodes, `cut`": (CUT, registers_under_chain, 4_000, CONES),
+    "n registers under an enable, `refine`": (REFINE, registers_under_chain, 4_000, CONES),
+    "n nodes of a chain with a register each, `cut`": (CUT, register_on_each_node, 4_000, CONES),
+    "n nodes of a chain with a register each, `refine`": (REFINE, register_on_each_node, 4_000, CONES),
+    "n wires whose names collide": (CHECK, wires_of_colliding_names, 8_000, COLLIDING),
+    "n vectors whose lengths collide": (CHECK, colliding_lengths, 8_000, COLLIDING),
+    "an element of n to one of n, by indices": (CHECK, element_to_element, 1_000, COPIES),
+    "n layers of 100 elements, in one statement each": (CHECK, layers_in_one_statement, 30, COPIES),
 }
 
 
-def answer(program, text, stack):
-    """What `check` says of a text under a stack of so many bytes, or the signal that ended it; seconds; and peak memory in MB."""
+def answer(program, text, stack, words=("check",)):
+    """What `check` or another command says of a text under a stack of so many bytes, its last line, or the signal that ended it; seconds; and peak
+    memory in MB."""
 
     def limited():
         resource.setrlimit(resource.RLIMIT_STACK, (stack, resource.getrlimit(resource.RLIMIT_STACK)[1]))
+        resource.setrlimit(resource.RLIMIT_AS, (MOST_ADDRESSES, resource.getrlimit(resource.RLIMIT_AS)[1]))
 
     with tempfile.TemporaryFile() as given:
         given.write(text.encode())
         given.seek(0)
         began = time.perf_counter()
-        child = subprocess.Popen([program, "check"], stdin=given, stdout=subprocess.PIPE, preexec_fn=limited)
-        written = child.stdout.read().decode().strip()
+        child = subprocess.Popen([program, *words], stdin=given, stdout=subprocess.PIPE, preexec_fn=limited)
+        written = child.stdout.read().decode().strip().rpartition("\n")[2]
         child.stdout.close()
         _, status, used = os.wait4(child.pid, 0)
         child.returncode = os.waitstatus_to_exitcode(status)
@@ -383,18 +507,19 @@ def check(program):
 
 
 def measure(program):
-    print(f"{'text':48} {'bytes':>9} {'seconds':>8} {'MB':>7} {'twice the bytes':>15} {'seconds':>8} {'MB':>7} {'ratio':>6}  answer")
+    print(f"{'text':56} {'bytes':>9} {'seconds':>8} {'MB':>7} {'twice the bytes':>15} {'seconds':>8} {'MB':>7} {'ratio':>6}  answer")
     for meaning, text in (DEEP | MASKED).items():
         said, seconds, memory = answer(program, text, 8 * MEGABYTE)
-        print(f"{meaning:48} {len(text):9,} {seconds:8.2f} {memory:7.0f} {'':15} {'':8} {'':7} {'':6}  {said}")
-    for meaning, (make, size, _) in ROWS.items():
+        print(f"{meaning:56} {len(text):9,} {seconds:8.2f} {memory:7.0f} {'':15} {'':8} {'':7} {'':6}  {said}")
+    rows = {meaning: (CHECK, make, size, None) for meaning, (make, size, _) in ROWS.items()} | KNOWN
+    for meaning, (words, make, size, known) in rows.items():
         small, large = make(size), make(2 * size)
-        said, seconds, memory = answer(program, small, 8 * MEGABYTE)
-        said_of_large, seconds_of_large, memory_of_large = answer(program, large, 8 * MEGABYTE)
+        said, seconds, memory = answer(program, small, 8 * MEGABYTE, words)
+        said_of_large, seconds_of_large, memory_of_large = answer(program, large, 8 * MEGABYTE, words)
         both = said if said == said_of_large else f"{said}; {said_of_large}"
         print(
-            f"{meaning:48} {len(small):9,} {seconds:8.2f} {memory:7.0f} {len(large):15,} {seconds_of_large:8.2f} {memory_of_large:7.0f}"
-            f" {seconds_of_large / seconds:6.1f}  {both}"
+            f"{meaning:56} {len(small):9,} {seconds:8.2f} {memory:7.0f} {len(large):15,} {seconds_of_large:8.2f} {memory_of_large:7.0f}"
+            f" {seconds_of_large / seconds:6.1f}  {both}{f' (known: {known})' if known else ''}"
         )
     return 0
 

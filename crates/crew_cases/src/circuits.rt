@@ -60,4 +60,25 @@ circuit M :
     trace: "cycle o\n0 0\n1 0\n2 5\n3 5\n",
 };
 
-pub const CASES: [Case; 2] = [EXCHANGE, MEMORY];
+/// Two registers of which each takes what the other one isn't. A body that publishes before all have evaluated writes another trace.
+pub const INVERTED: Case = Case {
+    circuit: "FIRRTL version 3.0.0
+circuit M :
+  module M :
+    input clock : Clock
+    input reset : UInt<1>
+    output x : UInt<4>
+    regreset a : UInt<4>, clock, reset, UInt<4>(1)
+    regreset b : UInt<4>, clock, reset, UInt<4>(2)
+    node n = not(b)
+    node m = not(a)
+    connect a, n
+    connect b, m
+    connect x, a
+",
+    stimulus: "cycles 4\n0 reset 1\n1 reset 0\n",
+    cycles: 4,
+    trace: "cycle x\n0 0\n1 1\n2 13\n3 1\n",
+};
+
+pub const CASES: [Case; 3] = [EXCHANGE, MEMORY, INVERTED];

@@ -1,9 +1,11 @@
-//! Cases of the top call, over shelves and sinks that fail in the middle, and of runs by workers in threads: short circuits whose traces
+//! Cases of the top call, over shelves and sinks that fail at each of their calls, and of runs by workers in threads: short circuits whose traces
 //! are written by hand, whatever threads are there, and frames that stay short.
 #![tactic(auto)]
 
 #[cfg(test)]
 mod circuits;
+#[cfg(test)]
+mod failures;
 #[cfg(test)]
 mod frames;
 #[cfg(test)]

@@ -1,6 +1,6 @@
 //! Two workers run at once.
 
-use crate::circuits::EXCHANGE;
+use crate::circuits::{EXCHANGE, INVERTED};
 use crate::gates::Meeting;
 use crate::programs::{answer, holding};
 use crate::reading::{Force, read, traced_by};
@@ -9,22 +9,6 @@ use std::sync::Wait;
 use std::test::Fail;
 use std::thread::Threads;
 
-/// Two registers of which each takes what the other one isn't.
-const INVERTED: &str = "FIRRTL version 3.0.0
-circuit M :
-  module M :
-    input clock : Clock
-    input reset : UInt<1>
-    output x : UInt<4>
-    regreset a : UInt<4>, clock, reset, UInt<4>(1)
-    regreset b : UInt<4>, clock, reset, UInt<4>(2)
-    node n = not(b)
-    node m = not(a)
-    connect a, n
-    connect b, m
-    connect x, a
-";
-
 /// In each cycle a worker looks so many times for the other one.
 const LOOKS: u64 = 100_000_000;
 
@@ -32,7 +16,7 @@ const LOOKS: u64 = 100_000_000;
 #[test]
 fn two_workers_of_the_program_see_each_other(rt: HostRuntime) -> Result<(), Fail> {
     let meeting = Meeting::new(1, LOOKS);
-    let outside = holding(INVERTED, "cycles 1\n0 reset 1\n");
+    let outside = holding(INVERTED.circuit, "cycles 1\n0 reset 1\n");
     let words = ["run", "--workers", "2"];
     let (status, written) = answer(&rt, rt.alloc(), &meeting, &words, outside)?;
     assert_eq!(rt; status, 0);

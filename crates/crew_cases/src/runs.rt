@@ -48,7 +48,7 @@ fn expect<R: Threads + Wait + Sync + Abort>(rt: &R, alloc: Global, case: Case, f
     }
 }
 
-// where no thread is started, the caller drives all workers
+// where no thread is started, the caller drives all workers, in one list
 #[test]
 fn workers_without_a_thread_are_driven_by_the_caller(rt: HostRuntime) {
     for case in CASES {
