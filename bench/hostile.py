@@ -463,8 +463,7 @@ KNOWN = {
 
 
 def answer(program, text, stack, words=("check",)):
-    """What `check` or another command says of a text under a stack of so many bytes, its last line, or the signal that ended it; seconds; and peak
-    memory in MB."""
+    """What `check` or another command says of a text under a stack of so many bytes, or the signal that ended it; seconds; and peak memory in MB."""
 
     def limited():
         resource.setrlimit(resource.RLIMIT_STACK, (stack, resource.getrlimit(resource.RLIMIT_STACK)[1]))
@@ -475,12 +474,16 @@ def answer(program, text, stack, words=("check",)):
         given.seek(0)
         began = time.perf_counter()
         child = subprocess.Popen([program, *words], stdin=given, stdout=subprocess.PIPE, preexec_fn=limited)
-        written = child.stdout.read().decode().strip().rpartition("\n")[2]
+        written = child.stdout.read().decode().strip()
         child.stdout.close()
         _, status, used = os.wait4(child.pid, 0)
         child.returncode = os.waitstatus_to_exitcode(status)
     said = signal.Signals(-child.returncode).name if child.returncode < 0 else written
     return said, time.perf_counter() - began, used.ru_maxrss / 1024
+
+
+def last_line(written):
+    return written.rpartition("\n")[2]
 
 
 def asked():
@@ -516,6 +519,7 @@ def measure(program):
         small, large = make(size), make(2 * size)
         said, seconds, memory = answer(program, small, 8 * MEGABYTE, words)
         said_of_large, seconds_of_large, memory_of_large = answer(program, large, 8 * MEGABYTE, words)
+        said, said_of_large = last_line(said), last_line(said_of_large)
         both = said if said == said_of_large else f"{said}; {said_of_large}"
         print(
             f"{meaning:56} {len(small):9,} {seconds:8.2f} {memory:7.0f} {len(large):15,} {seconds_of_large:8.2f} {memory_of_large:7.0f}"
