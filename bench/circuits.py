@@ -261,7 +261,7 @@ connect out, xor(bits(asUInt(total), 31, 0), cat(bits(asUInt(total), 47, 32), ca
     )
 
 
-def life8():
+def board(cell):
     """The game of life on a torus of 8 by 8 cells, each a register of its own; some cells are turned by noise in one of 32 cycles."""
     lines = ["reg tick : UInt<5>, clock", "connect tick, tail(add(tick, UInt<5>(1)), 1)", "node stir = eq(tick, UInt<5>(0))"]
     lines += [f"reg c{k} : UInt<1>, clock" for k in range(64)]
@@ -271,12 +271,31 @@ def life8():
         total = near[0]
         for each in near[1:]:
             total = f"add({total}, {each})"
-        lines += [f"node n{k} = {total}", f"node l{k} = or(eq(n{k}, UInt<4>(3)), and(c{k}, eq(n{k}, UInt<4>(2))))"]
-        lines += [f"connect c{k}, mux(stir, xor(l{k}, bits(noise, {k % 32}, {k % 32})), l{k})"]
+        lines += cell(k, total, f"bits(noise, {k % 32}, {k % 32})")
     shown = "c0"
     for k in range(1, 32):
         shown = f"cat({shown}, c{k * 2})"
     return circuit(NOISE + "\n".join([*lines, f"connect out, {shown}"]))
+
+
+def life8():
+    """The board where each cell's sum of neighbours is a node."""
+
+    def cell(k, total, noise):
+        lives = f"or(eq(n{k}, UInt<4>(3)), and(c{k}, eq(n{k}, UInt<4>(2))))"
+        return [f"node n{k} = {total}", f"node l{k} = {lives}", f"connect c{k}, mux(stir, xor(l{k}, {noise}), l{k})"]
+
+    return board(cell)
+
+
+def life8_when():
+    """The board where the sum stands in the conditions of each cell, and a stirred cell is the noise."""
+
+    def cell(k, total, noise):
+        lines = ["when stir :", f"  connect c{k}, {noise}", f"else when eq({total}, UInt<4>(3)) :", f"  connect c{k}, UInt<1>(1)"]
+        return [*lines, f"else when neq({total}, UInt<4>(2)) :", f"  connect c{k}, UInt<1>(0)"]
+
+    return board(cell)
 
 
 def bram4k():
@@ -316,6 +335,7 @@ CIRCUITS = {
     "stack_machine": stack_machine,
     "dsp48e1": dsp48e1,
     "life8": life8,
+    "life8_when": life8_when,
     "bram4k": bram4k,
     "mesh": lambda: mesh(32, 16),
     "ring256": lambda: ring(256),

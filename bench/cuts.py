@@ -1,32 +1,15 @@
-"""Prints a table: the time to order and to cut nets of registers, at a size and at twice the size, and the ratio; and, where FIRSIM is
-given, a second one: the time to cut large circuits whose cones overlap, by several numbers of workers.
+"""Prints a table: the time to cut large circuits whose cones overlap, by several numbers of workers.
 
-usage: cuts.py PROGRAM [FIRSIM], where PROGRAM is firsim_bench, or `-` for the second table alone
+usage: cuts.py PROGRAM
 
-The time goes with the sum of the cones: those of a ring and of a mesh are as large at twice the size, so that the ratio is 2;
-those of a chain are twice as large, so that it is 4. With one part no cone is walked by itself, and the ratio is 2 for each.
-
-In the second table times are of the processor, and that of `check` on the same text is taken off, so that what is left is to order the net, to
-cut it and to write the listing.
+Times are of the processor, and that of `check` on the same text is taken off, so that what is left is to order the net, to cut it and to
+write the listing.
 """
 import resource
 import subprocess
 import sys
 import tempfile
-import time
 from pathlib import Path
-
-SHAPES = [
-    ("ring", 4_096, 1, "a ring"),
-    ("ring", 4_096, 2, "a ring"),
-    ("ring", 4_096, 64, "a ring"),
-    ("mesh", 1_000, 1, "a mesh"),
-    ("mesh", 1_000, 2, "a mesh"),
-    ("mesh", 1_000, 64, "a mesh"),
-    ("chain", 1_000, 1, "a chain under all registers"),
-    ("chain", 1_000, 2, "a chain under all registers"),
-    ("chain", 1_000, 64, "a chain under all registers"),
-]
 
 WORKERS = [1, 2, 8, 64]
 
@@ -76,26 +59,17 @@ def spent():
     return usage.ru_utime + usage.ru_stime
 
 
-def best_seconds(clock, tries, command, last_words):
-    """The least time by a clock of a command that must end with these words."""
+def best_seconds(command, last_words):
+    """The least time of three runs of a command that must end with these words."""
     best = None
-    for _ in range(tries):
-        began = clock()
+    for _ in range(3):
+        began = spent()
         written = subprocess.run(command, stdout=subprocess.PIPE, check=True).stdout
-        took = clock() - began
+        took = spent() - began
         last = written.decode().splitlines()[-1].split()
         assert last[:len(last_words)] == last_words, written[-200:]
         best = took if best is None else min(best, took)
     return best
-
-
-def shapes(program):
-    print(f"{'cut of':28} {'registers':>9} {'parts':>5} {'ms':>8} {'twice ms':>9} {'ratio':>6}")
-    for shape, count, parts, meaning in SHAPES:
-        start, small, large = (
-            best_seconds(time.perf_counter, 7, [program, "cuts", shape, str(n), str(parts)], ["needed", str(n)]) for n in (1, count, 2 * count)
-        )
-        print(f"{meaning:28} {count:9,} {parts:5} {(small - start) * 1000:8.1f} {(large - start) * 1000:9.1f} {(large - start) / (small - start):6.1f}")
 
 
 def circuits(firsim):
@@ -104,19 +78,12 @@ def circuits(firsim):
         path = Path(folder) / "circuit.fir"
         for meaning, text, needed in CIRCUITS:
             path.write_text(text())
-            checked = best_seconds(spent, 3, [firsim, "check", str(path)], ["ok"])
+            checked = best_seconds([firsim, "check", str(path)], ["ok"])
             row = f"{meaning:32} {needed:11,}"
             for workers in WORKERS:
-                took = best_seconds(spent, 3, [firsim, "cut", "--workers", str(workers), str(path)], ["needed", str(needed)])
+                took = best_seconds([firsim, "cut", "--workers", str(workers), str(path)], ["needed", str(needed)])
                 row += f" {(took - checked) * 1000:9.0f}"
             print(row, flush=True)
 
 
-def main():
-    if sys.argv[1] != "-":
-        shapes(sys.argv[1])
-    if len(sys.argv) > 2:
-        circuits(sys.argv[2])
-
-
-main()
+circuits(sys.argv[1])

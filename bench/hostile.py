@@ -244,6 +244,18 @@ def diverging_chain(size):
     return FRONT + module(["input a : UInt<8>"] + wires + chain + ["node n = " + sum_of([f"w{k}" for k in range(size)])])
 
 
+def wires_in_a_chain(size, forward):
+    """Wires without widths, each of which takes the one behind it, with the connects from the chain's beginning or from its end."""
+    links = [f"connect w{k}, w{k + 1}" for k in range(size - 1)] + [f"connect w{size - 1}, a"]
+    return FRONT + module(["input a : UInt<7>"] + [f"wire w{k} : UInt" for k in range(size)] + (links if forward else links[::-1]))
+
+
+def registers_in_a_ring(size):
+    """Registers without widths that pass on a value of 7 bits."""
+    ring = [f"connect r{k}, r{(k + 1) % size}" for k in range(size)]
+    return FRONT + module(["input clock : Clock"] + [f"reg r{k} : UInt, clock" for k in range(size)] + ["connect r0, UInt<7>(1)"] + ring)
+
+
 def sum_of(terms):
     """One expression of all these, in brackets that are few."""
     while len(terms) > 1:
@@ -295,6 +307,10 @@ def ports_of_long_names(size):
     return FRONT + module([f"input {'n' * 1000}{k} : UInt<1>" for k in range(size)])
 
 
+def settings_of_long_names(size):
+    return ports_of_long_names(size) + "%stimulus\ncycles 1\n" + "".join(f"0 {'n' * 1000}{k} 1\n" for k in range(size))
+
+
 def arms(size):
     """A chain of so many arms, of which each crosses the conditions before it."""
     lines = ["input a : UInt<16>", "output o : UInt<16>", "connect o, a"]
@@ -338,7 +354,52 @@ def layers_of_vectors(size):
     return FRONT + module(lines + [f"connect r, v{size - 1}"])
 
 
-# Texts that are known to be slow.
+# Texts with indices that are chosen at run time: what one statement asks of each element of a vector.
+
+
+def element_to_element(size):
+    """An element of one vector of registers is set to one of another, both by an index."""
+    lines = ["input clock : Clock", "input i : UInt<16>"] + [f"reg {name} : UInt<8>[{size}], clock" for name in "vw"]
+    return FRONT + module(lines + ["connect w[i], v[i]"])
+
+
+def vector_where_an_element_is_one(size):
+    """A whole vector of registers is set where an element of a third one is 1, by an index."""
+    lines = ["input clock : Clock", "input i : UInt<16>", f"reg c : UInt<1>[{size}], clock"]
+    lines += [f"reg {name} : UInt<8>[{size}], clock" for name in "uv"]
+    return FRONT + module(lines + ["when c[i] :", "  connect u, v"])
+
+
+def wires_to_wires(size):
+    """The same with wires in the place of registers."""
+    lines = ["input clock : Clock", "input i : UInt<16>", f"reg r : UInt<8>[{size}], clock"] + [f"wire {name} : UInt<8>[{size}]" for name in "vw"]
+    return FRONT + module(lines + ["connect v, r", "connect w, r", "connect w[i], v[i]", "connect r, w"])
+
+
+def layers_in_one_statement(size):
+    """Layers of 200 elements as above, without nodes for what the indices choose."""
+    lines = ["input clock : Clock", "input i : UInt<8>", "reg r : UInt<8>[200], clock", "wire v0 : UInt<8>[200]", "connect v0, r"]
+    for k in range(1, size):
+        before = f"v{k - 1}"
+        lines += [f"wire v{k} : UInt<8>[200]", f"connect v{k}, {before}", f"connect v{k}[{before}[0]], {before}[{before}[i]]"]
+    return FRONT + module(lines + [f"connect r, v{size - 1}"])
+
+
+def pairs_of_indices(size):
+    """Indices within one another, each of the second of two vectors."""
+    way = "i"
+    for _ in range(size):
+        way = f"v[i][{way}]"
+    return FRONT + module(["input i : UInt<1>", "input v : UInt<1>[2][2]", "output o : UInt<1>", f"connect o, {way}"])
+
+
+def reads_by_indices(size):
+    """Reads of one vector of 16 elements, each by an index of its own."""
+    reads = [f"node x{k} = v[xor(i, UInt<8>({k % 256}))]" for k in range(size)]
+    return FRONT + module(["input i : UInt<8>", "input v : UInt<8>[16]"] + reads)
+
+
+# Texts whose keys have one hash in the maps of the kit, whose seed is the same in each run.
 
 HASH_SEED, HASH_FACTOR, HASH_MASK = 0x243F_6A88_85A3_08D3, 0x9E37_79B9_7F4A_7C15, (1 << 64) - 1
 LETTERS = set(b"abcdefghijklmnopqrstuvwxyzABCDEFGHIJKLMNOPQRSTUVWXYZ0123456789_")
@@ -351,8 +412,7 @@ def folded(first, second):
 
 
 def front_of_colliding():
-    """24 letters behind which all names of 8 more have the hash 0: the third eight are what the default hasher of the kit has made of the first two,
-    and its seed is the same in each run."""
+    """24 letters behind which all names of 8 more have the hash 0: the third eight are what the hasher has made of the first two."""
     number = 0
     while True:
         block = f"n{number:015d}".encode()
@@ -368,24 +428,79 @@ def wires_of_colliding_names(size):
     return FRONT + module([f"wire {front}{k:08d} : UInt<1>" for k in range(size)] + [f"invalidate {front}{k:08d}" for k in range(size)])
 
 
+def leaves_of_colliding_names(size):
+    return wires_of_colliding_names(size) + "%stimulus\ncycles 1\n"
+
+
 def colliding_lengths(size):
-    """Vectors of `UInt<1>` whose lengths have one hash, as keys of the classes of types."""
+    """Vectors of `UInt<1>` whose lengths have one hash, beside the number of their elements' class."""
     low = folded(HASH_SEED, HASH_FACTOR ^ 8) + 16 & HASH_MASK
     return FRONT + module([f"wire w{k} : UInt<1>[{k + 1 << 64 | low}]" for k in range(size)])
 
 
-def element_to_element(size):
-    lines = ["input clock : Clock", "input i : UInt<16>"] + [f"reg {name} : UInt<8>[{size}], clock" for name in "vw"]
-    return FRONT + module(lines + ["connect w[i], v[i]"])
+def crowded_numbers(size):
+    """So many names, and references to the last of those whose numbers, as keys of a map, fall into one group of it. There are no more of these
+    than a map with a group for each nine of them has keys for one group: some 3 times the root of all numbers."""
+    groups = 1
+    while True:
+        crowds = {}
+        for number in range(size):
+            crowds.setdefault(hash_of_number(number + 12) & groups - 1, []).append(number)
+        crowd = max(crowds.values(), key=len)
+        if len(crowd) <= 9 * groups:
+            break
+        groups *= 2
+    names = module([f"input p : {{ {', '.join(f'a{k} : UInt<1>' for k in range(size))} }}"], "A")
+    return FRONT + names + module([f"wire a{k} : UInt<1>" for k in crowd] + [f"invalidate a{crowd[-1]}"] * (size // 2), "B") + module(["skip"])
 
 
-def layers_in_one_statement(size):
-    """Layers of 100 elements as above, without nodes for what the indices choose."""
-    lines = ["input clock : Clock", "input i : UInt<8>", "reg r : UInt<8>[100], clock", "wire v0 : UInt<8>[100]", "connect v0, r"]
-    for k in range(1, size):
-        before = f"v{k - 1}"
-        lines += [f"wire v{k} : UInt<8>[100]", f"connect v{k}, {before}", f"connect v{k}[{before}[0]], {before}[{before}[i]]"]
-    return FRONT + module(lines + [f"connect r, v{size - 1}"])
+def hash_of_number(number):
+    """The hash of a number of 32 bits."""
+    made = folded(HASH_SEED ^ (number | number << 32), HASH_FACTOR ^ 8)
+    return made & 0xFFFF_FFFF ^ made >> 32
+
+
+# Texts that ask much of the resolution of `Reset`, as soon as one has an AsyncReset: bundles of 3 n Resets, vectors in one another, and
+# modules in a row or a ring.
+
+
+def resets(size):
+    return fields(3 * size, "Reset")
+
+
+def connects_of_resets(size):
+    return FRONT + module([f"input i : {resets(size)}", f"output o : {resets(size)}"] + ["connect o, i"] * size, "N") + module(["skip"])
+
+
+def nodes_of_resets(size):
+    return FRONT + module([f"input i : {resets(size)}"] + [f"node x{k} = i" for k in range(size)])
+
+
+def instances_of_resets(size):
+    return FRONT + module([f"input i : {resets(size)}"], "P") + module([f"inst p{k} of P" for k in range(size)], "N") + module(["skip"])
+
+
+def masks_of_resets(size):
+    return writers_of(resets(size), size, ["invalidate m"])
+
+
+def vectors_of_resets(size):
+    wires = [f"wire w{k} : Reset{'[1]' * 127}" for k in range(size)]
+    return FRONT + module(wires + [f"connect w{k}, w{k + 1}" for k in range(size - 1)] + [f"invalidate w{size - 1}"])
+
+
+def modules_of_resets(size, behind_last):
+    """Modules that hand a Reset on to one another."""
+    inside = [["input r : Reset", f"inst i of R{k + 1}", "connect i.r, r"] for k in range(size - 1)] + [["input r : Reset"] + behind_last]
+    return FRONT + module(["input r : Reset", "inst i of R0", "connect i.r, r"]) + "".join(module(lines, f"R{k}") for k, lines in enumerate(inside))
+
+
+def row_of_resets(size):
+    return modules_of_resets(size, [])
+
+
+def ring_of_resets(size):
+    return modules_of_resets(size, ["inst i of R0", "connect i.r, r"])
 
 
 DEEP = {
@@ -428,6 +543,9 @@ ROWS = {
     "n writers of one memory of n fields without widths": (open_writers, 10_000, ACCEPTED),
     "n operands over a chain that runs backward": (backward_chain, 400, ACCEPTED),
     "n operands over a chain that diverges": (diverging_chain, 400, "circuit WidthOver 5:10"),
+    "n wires in a chain, connects from its beginning": (lambda n: wires_in_a_chain(n, True), 16_000, ACCEPTED),
+    "n wires in a chain, connects from its end": (lambda n: wires_in_a_chain(n, False), 16_000, ACCEPTED),
+    "n registers in a ring": (registers_in_a_ring, 16_000, ACCEPTED),
     "n modules in one ring of instances": (module_ring, 2_000, "circuit InstanceLoop 6:15"),
     "n references with 127 indices each": (many_indices, 1_000, ACCEPTED),
     "n declarations of long names": (long_names, 250, ACCEPTED),
@@ -438,16 +556,30 @@ ROWS = {
     "n wires, connects and nodes": (dense_statements, 6_000, ACCEPTED),
     "n instances of a module with 200 ports": (wide_instances, 1_000, TOO_LARGE),
     "n ports of main with names of 1,000 letters": (ports_of_long_names, 500, ACCEPTED),
+    "n pairs of indices within one another": (pairs_of_indices, 30, ACCEPTED),
+    "n reads of one vector by indices of their own": (reads_by_indices, 5_000, ACCEPTED),
     "a chain of n arms": (reached_arms, 1_400, TOO_LARGE),
     "a chain of n arms that main doesn't reach": (unreached_arms, 5_600, ACCEPTED),
+    "n wires whose names collide": (wires_of_colliding_names, 5_000, ACCEPTED),
+    "n vectors whose lengths collide": (colliding_lengths, 10_000, TOO_LARGE),
+    "n / 2 references to one of n names whose numbers crowd": (crowded_numbers, 17_000, ACCEPTED),
+    "n connects of 3 n Resets": (connects_of_resets, 10_000, ACCEPTED),
+    "n nodes of 3 n Resets": (nodes_of_resets, 10_000, TOO_LARGE),
+    "n instances of a module with 3 n Resets": (instances_of_resets, 10_000, ACCEPTED),
+    "n masks of 3 n Resets": (masks_of_resets, 10_000, ACCEPTED),
+    "n wires of Resets in 127 vectors": (vectors_of_resets, 2_000, ACCEPTED),
+    "n modules in a row, each with a Reset": (row_of_resets, 2_000, TOO_LARGE),
+    "n modules in one ring, each with a Reset": (ring_of_resets, 2_000, "circuit InstanceLoop 9:15"),
+    "an element of n to one of n, by indices": (element_to_element, 20_000, ACCEPTED),
+    "n registers where one of n is 1, by an index": (vector_where_an_element_is_one, 20_000, ACCEPTED),
+    "n layers of 200 elements, in one statement each": (layers_in_one_statement, 75, ACCEPTED),
 }
 
 CHECK, CUT, REFINE = ("check",), ("cut", "--workers", "2"), ("refine", "--workers", "2")
 
 # Only measured: the command, the text, the size, and what is known of it, where it isn't in proportion.
 CONES = "each cone is walked once to place its sink"
-COLLIDING = "the default hasher of the kit has a fixed seed"
-COPIES = "each element has a copy of the other side"
+ARMS = "each arm has the conditions before it, as far as the limit of the size allows"
 KNOWN = {
     "n layers of 200 elements that index one another": (CHECK, layers_of_vectors, 75, None),
     "n layers of 200 elements, `cut`": (CUT, layers_of_vectors, 75, None),
@@ -455,10 +587,14 @@ KNOWN = {
     "n registers under an enable, `refine`": (REFINE, registers_under_chain, 4_000, CONES),
     "n nodes of a chain with a register each, `cut`": (CUT, register_on_each_node, 4_000, CONES),
     "n nodes of a chain with a register each, `refine`": (REFINE, register_on_each_node, 4_000, CONES),
-    "n wires whose names collide": (CHECK, wires_of_colliding_names, 8_000, COLLIDING),
-    "n vectors whose lengths collide": (CHECK, colliding_lengths, 8_000, COLLIDING),
-    "an element of n to one of n, by indices": (CHECK, element_to_element, 1_000, COPIES),
-    "n layers of 100 elements, in one statement each": (CHECK, layers_in_one_statement, 30, COPIES),
+    "n leaves whose names collide, `vcd` of one": (("vcd", "-", "M"), leaves_of_colliding_names, 5_000, None),
+    "n leaves whose names collide, `log`": (("log",), leaves_of_colliding_names, 5_000, None),
+    "a chain of n arms that fits": (CHECK, reached_arms, 400, ARMS),
+    "n settings of names of 1,000 letters, `run`": (("run",), settings_of_long_names, 250, None),
+    "an element of n to one of n, by indices, `cut`": (CUT, element_to_element, 20_000, None),
+    "n registers where one of n is 1, `cut`": (CUT, vector_where_an_element_is_one, 20_000, None),
+    "n layers of 200 elements, in one statement each, `cut`": (CUT, layers_in_one_statement, 75, None),
+    "n wires, one of which is set to one of n, `cut`": (CUT, wires_to_wires, 2_000, CONES),
 }
 
 

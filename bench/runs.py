@@ -138,4 +138,5 @@ def main():
     print(f"1,000,000 cycles with 1,000 inputs: {took:.2f} s, {memory:.0f} MB")
 
 
-main()
+if __name__ == "__main__":
+    main()

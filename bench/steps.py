@@ -41,7 +41,7 @@ def main():
             count, cycles = 21 * blocks, INSTRUCTIONS // (21 * blocks)
             first = None
             for window in WINDOWS:
-                words = ["codes", str(blocks), str(window)]
+                words = [str(blocks), str(window)]
                 with open(listing, "wb") as file:
                     subprocess.run([ours, *words], stdout=file, check=True)
                 cycle, word = nanoseconds([ours, *words], cycles)

@@ -12,8 +12,8 @@ use Rattle.ground_net.specs.declared.ground.Ground.{Ground}
 use Rattle.ground_net.specs.declared.net.Leaf.{Leaf}
 use Rattle.ground_net.specs.declared.net.Net.{Net}
 use Rattle.ground_net.specs.Reads.{lone_driver}
-use Rattle.net_meaning.specs.Cycles.{instant_of}
-use Rattle.net_meaning.specs.Nets.{IsNet}
+use Rattle.ground_net.specs.Cycles.{instant_of}
+use Rattle.ground_net.specs.Nets.{IsNet}
 use Rattle.net_of_circuit.specs.FlatOrder.{Standing, all_leaves}
 use Rattle.net_of_circuit.specs.NetOf.{IsLeafOfNet, IsNetWith, IsNetOf, valuation_of}
 use Rattle.memory_ports.specs.Placing.{IsPlaced, own_driver}

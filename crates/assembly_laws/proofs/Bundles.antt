@@ -22,7 +22,7 @@ use Rattle.fir_types.specs.Memories.{depth_of}
 use Rattle.fir_types.specs.Bundles.{port_field, port_type, fields_of_mode, plain_field, flipped_field, uint_at, clock_at, mask_of, address_bits, addr_name, en_name, clk_name, wmode_name}
 use Rattle.fir_types.proofs.Layers.{leaves-bundle, leaves-field}
 use Rattle.fir_types.proofs.Masks.{masked}
-use Rattle.cycle_values.specs.Shapes.{shaped}
+use Rattle.prim_ops.specs.Shapes.{shaped}
 use Rattle.fir_meaning.specs.Components.{ports_bundle}
 use Rattle.fir_meaning.specs.MemoryPorts.{MemoryPort, port_in, memory_ports, written_field, mask_field}
 use Rattle.fir_meaning.specs.WellTyped.{leaf_shape}

@@ -14,8 +14,8 @@ use Rattle.fir_types.specs.Leaves.{leaves}
 use Rattle.fir_types.specs.Memories.{depth_of}
 use Rattle.fir_types.specs.Bundles.{flipped_field}
 use Rattle.fir_tree.specs.declared.expr.Expr.{Expr}
-use Rattle.cycle_values.specs.Values.{lone, fitted}
-use Rattle.cycle_values.specs.Shapes.{shape_of_value}
+use Rattle.prim_ops.specs.Values.{lone, fitted}
+use Rattle.prim_ops.specs.Shapes.{shape_of_value}
 use Rattle.fir_meaning.specs.Components.{TypedModule, Component, Sort, An_input, An_output, A_wire, A_register, A_reset_register, A_memory, An_instance, A_node, type_in, target_in, is_clock, flow_of}
 use Rattle.fir_meaning.specs.MemoryPorts.{MemoryPort, memory_ports}
 use Rattle.fir_meaning.specs.Values.{Valuation, scene_of}
@@ -42,8 +42,8 @@ use Rattle.ground_net.specs.Cones.{numbered}
 use Rattle.ground_net.specs.Grounds.{Instant}
 use Rattle.ground_net.specs.Statements.{drives}
 use Rattle.ground_net.specs.Renumbering.{with_numbers, seen_by}
-use Rattle.net_meaning.specs.Shapes.{HasShapes, shaped}
-use Rattle.net_meaning.proofs.Shaping.{fitted_shape}
+use Rattle.ground_net.specs.Shapes.{HasShapes, shaped}
+use Rattle.ground_net.proofs.Shaping.{fitted_shape}
 use Rattle.expand_whens.specs.Expanding.{IsUndriven, Drives}
 use Rattle.net_of_circuit.specs.FlatOrder.{Placed, Standing, all_memories, memory_in}
 use Rattle.net_of_circuit.specs.NetOf.{valuation_of, may_read, read_field}

@@ -11,7 +11,7 @@ use Rattle.fir_types.specs.declared.memory.PortMode.TheVariants as mode
 use Rattle.fir_types.specs.Leaves.{leaves}
 use Rattle.fir_types.specs.Memories.{depth_of, read_latency_of}
 use Rattle.fir_types.specs.Bundles.{addr_name, en_name, wmode_name}
-use Rattle.cycle_values.specs.Ports.{Held, Shown, read_by_port, set_to_read}
+use Rattle.prim_ops.specs.Ports.{Held, Shown, read_by_port, set_to_read}
 use Rattle.fir_meaning.specs.Components.{A_memory, flat_through, component_named, target_of, target_in, is_clock, flow_of}
 use Rattle.fir_meaning.specs.Values.{Valuation, scene_of}
 use Rattle.fir_meaning.specs.MemoryPorts.{MemoryPort, port_named, asks_to_read, read_by, read_of}
@@ -29,9 +29,9 @@ use Rattle.ground_net.specs.declared.net.NetRead.{NetRead}
 use Rattle.ground_net.specs.declared.net.ElementLeaf.{ElementLeaf}
 use Rattle.ground_net.specs.Grounds.{Instant, value}
 use Rattle.ground_net.specs.Reads.{driver_of}
-use Rattle.net_meaning.specs.Cycles.{NetState, instant_of, is_set, where_it_reads}
-use Rattle.net_meaning.specs.Cycles as cycle
-use Rattle.net_meaning.specs.Nets.{IsWithin}
+use Rattle.ground_net.specs.Cycles.{NetState, instant_of, is_set, where_it_reads}
+use Rattle.ground_net.specs.Cycles as cycle
+use Rattle.ground_net.specs.Nets.{IsWithin}
 use Rattle.net_of_circuit.specs.FlatOrder.{Placed, Standing, all_memories}
 use Rattle.net_of_circuit.specs.NetOf.{IsSeen, Names, IsPortOf, IsMemoryOf, may_read, has_mode, seen_valuation}
 use Rattle.net_laws.proofs.Numbers.{valuation_at}

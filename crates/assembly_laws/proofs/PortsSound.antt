@@ -19,7 +19,7 @@ use Rattle.ground_net.specs.declared.circuit.GroundRole.TheVariants.{Plain}
 use Rattle.ground_net.specs.declared.net.NetPort.{NetPort}
 use Rattle.ground_net.specs.declared.net.NetRead.{NetRead}
 use Rattle.ground_net.specs.declared.net.NetWrite.{NetWrite}
-use Rattle.net_meaning.specs.Shapes.{shaped}
+use Rattle.ground_net.specs.Shapes.{shaped}
 use Rattle.net_of_circuit.specs.FlatOrder.{Placed, Standing}
 use Rattle.net_of_circuit.specs.NetOf.{Names, NameAll, IsPortOf, may_write, may_read, has_mode, read_field}
 use Rattle.net_of_circuit.specs.Numbers.{role_of}

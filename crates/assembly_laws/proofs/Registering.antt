@@ -11,7 +11,7 @@ use Rattle.ground_net.specs.declared.circuit.GroundRole.{GroundRole}
 use Rattle.ground_net.specs.declared.circuit.GroundRole.TheVariants.{Input, Clock, Register, Plain}
 use Rattle.ground_net.specs.declared.net.NetRegister.{NetRegister}
 use Rattle.ground_net.specs.declared.net.NetReset.{NetReset}
-use Rattle.net_meaning.specs.Shapes.{shaped, shape}
+use Rattle.ground_net.specs.Shapes.{shaped, shape}
 use Rattle.net_of_circuit.specs.FlatOrder.{Standing, flat_of}
 use Rattle.net_of_circuit.specs.Numbers.{ModuleLeaf, module_leaves, role_of, table_of, register_numbers}
 use Rattle.net_of_circuit.specs.Lowering.{HasReset, IsReset}

@@ -5,14 +5,14 @@ use Rattle.fir_types.specs.declared.fir_type.FirType.{FirType}
 use Rattle.fir_types.specs.declared.leaf.TypeLeaf.{TypeLeaf}
 use Rattle.fir_meaning.specs.Components.{TypedModule, kind_of_leaf, width_of_leaf}
 use Rattle.fir_meaning.specs.WellTyped.{leaf_shape}
-use Rattle.cycle_values.specs.Values.{lone}
+use Rattle.prim_ops.specs.Values.{lone}
 use Rattle.ground_net.specs.declared.ground.Ground.{Ground}
 use Rattle.ground_net.specs.declared.circuit.DrivenModule.{DrivenModule}
 use Rattle.ground_net.specs.declared.circuit.GroundLeaf.{GroundLeaf}
 use Rattle.ground_net.specs.Grounds.{Instant}
 use Rattle.ground_net.specs.Reads.{lone_driver}
 use Rattle.ground_net.specs.Renumbering.{with_numbers}
-use Rattle.net_meaning.specs.Shapes.{Shape, shaped, shape}
+use Rattle.ground_net.specs.Shapes.{Shape, shaped, shape}
 use Rattle.expand_whens.specs.Expanding.{IsDriver, Drives}
 use Rattle.net_of_circuit.specs.FlatOrder.{Standing}
 use Rattle.net_of_circuit.specs.Numbers.{module_leaves, table_of}

@@ -6,11 +6,11 @@ use Rattle.bit_words.specs.declared.value.Kind.{Kind}
 use Rattle.bit_words.specs.declared.value.Value.{Value}
 use Rattle.prim_ops.specs.declared.operation.PrimOp.{PrimOp}
 use Rattle.ground_net.specs.declared.ground.Ground.{Ground, the_lemmas}
-use Rattle.ground_net.specs.declared.ground.Ground.TheVariants.{Const, Leaf, Op, Mux, Select, Load, Fit}
+use Rattle.ground_net.specs.declared.ground.Ground.TheVariants.{Const, Leaf, Op, Mux, Select, Indexed, Load, Fit}
 use Rattle.ground_net.specs.Renumbering.{with_numbers}
 use Rattle.ground_net.proofs.Layers.{ground_induction, maps}
-use Rattle.net_meaning.specs.Shapes.{Shape, Table, is_unsigned, all_of, shape, shape_of_row, shape_of_choice, shape_of_selection, shape_of_load, shape_of_fit}
-use Rattle.net_meaning.proofs.Shaping.{and_then, if_some, shapes_of, shape-Const, shape-Leaf, shape-Op, shape-Mux, shape-Select, shape-Load, shape-Fit}
+use Rattle.ground_net.specs.Shapes.{Shape, Table, is_unsigned, all_of, shape, shape_of_row, shape_of_choice, shape_of_selection, shape_of_indexed, shape_of_load, shape_of_fit}
+use Rattle.ground_net.proofs.Shaping.{and_then, if_some, shapes_of, shape-Const, shape-Leaf, shape-Op, shape-Mux, shape-Select, shape-Indexed, shape-Load, shape-Fit}
 
 none_some : {A B : Type 0} {x : A} → None ≡ Some x → B
 none_some e = absurd cc
@@ -29,6 +29,9 @@ renumbered-Mux number items = grind (arith, common_steps, the_lemmas, maps)
 
 renumbered-Select : (number : ℕ → ℕ) (index items : List Ground) → with_numbers number (Select index items) ≡ Select (map (with_numbers number) index) (map (with_numbers number) items)
 renumbered-Select number index items = grind (arith, common_steps, the_lemmas, maps)
+
+renumbered-Indexed : (number : ℕ → ℕ) (ns : List ℕ) (is : List Ground) (ls : List ℕ) → with_numbers number (Indexed ns is ls) ≡ Indexed (map number ns) (map (with_numbers number) is) ls
+renumbered-Indexed number ns is ls = grind (arith, common_steps, the_lemmas, maps)
 
 renumbered-Load : (number : ℕ → ℕ) (m k : ℕ) (items : List Ground) → with_numbers number (Load m k items) ≡ Load m k (map (with_numbers number) items)
 renumbered-Load number m k items = grind (arith, common_steps, the_lemmas, maps)
@@ -54,6 +57,13 @@ module _ (number : ℕ → ℕ) (from to : Table) (leaves : (y : ℕ) (s : Shape
       let rest = and_then (λ more. Some (first.0 ∷ more)) (all_of (shapes_of gs from)) ss first.2 in
       ap₂ (λ t o. option_and_then (λ s. option_and_then (λ more. Some (s ∷ more)) o) t) (a.0 first.0 first.1) (all_moved gs a.1 rest.0 rest.1) ∙ rest.2
 
+  leaves_moved : (ns : List ℕ) (ss : List Shape) → all_of (map from.leaf ns) ≡ Some ss → all_of (map to.leaf (map number ns)) ≡ Some ss
+  leaves_moved [] ss e = e
+  leaves_moved (n ∷ ns) ss e =
+      let first = and_then (λ s. option_and_then (λ more. Some (s ∷ more)) (all_of (map from.leaf ns))) (from.leaf n) ss e in
+      let rest = and_then (λ more. Some (first.0 ∷ more)) (all_of (map from.leaf ns)) ss first.2 in
+      ap₂ (λ t o. option_and_then (λ s. option_and_then (λ more. Some (s ∷ more)) o) t) (leaves n first.0 first.1) (leaves_moved ns rest.0 rest.1) ∙ rest.2
+
   -- An expression has the shape under the new numbers that it had before.
   pub shape_moves : (g : Ground) (s : Shape) → shape g from ≡ Some s → shape (with_numbers number g) to ≡ Some s
   shape_moves = ground_induction Moves
@@ -72,6 +82,12 @@ module _ (number : ℕ → ℕ) (from to : Table) (leaves : (y : ℕ) (s : Shape
       ap (λ g. shape g to) (renumbered-Select number is gs)
       ∙ (shape-Select (map (with_numbers number) is) (map (with_numbers number) gs) to
       ∙ (ap₂ (λ i o. option_and_then (λ i. option_and_then (shape_of_selection i) o) i) (all_moved is b index.0 index.1) (all_moved gs a parts.0 parts.1) ∙ parts.2)))
+      (λ ns is ls b s e.
+      let index = and_then (λ i. option_and_then (shape_of_indexed i ls) (all_of (map from.leaf ns))) (all_of (shapes_of is from)) s (sym (shape-Indexed ns is ls from) ∙ e) in
+      let parts = and_then (shape_of_indexed index.0 ls) (all_of (map from.leaf ns)) s index.2 in
+      ap (λ g. shape g to) (renumbered-Indexed number ns is ls)
+      ∙ (shape-Indexed (map number ns) (map (with_numbers number) is) ls to
+      ∙ (ap₂ (λ i o. option_and_then (λ i. option_and_then (shape_of_indexed i ls) o) i) (all_moved is b index.0 index.1) (leaves_moved ns parts.0 parts.1) ∙ parts.2)))
       (λ m k gs a s e.
       let parts = and_then (shape_of_load (from.element m k)) (all_of (shapes_of gs from)) s (sym (shape-Load m k gs from) ∙ e) in
       no_load parts.0 s (ap (λ o. shape_of_load o parts.0) (sym (none m k)) ∙ parts.2))

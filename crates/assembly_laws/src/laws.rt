@@ -8,7 +8,7 @@ ghost use Rattle.ground_net.specs.declared.circuit.GroundCircuit.{GroundCircuit 
 ghost use Rattle.ground_net.specs.declared.circuit.DrivenCircuit.{DrivenCircuit as TheDrivenCircuit};
 ghost use Rattle.ground_net.specs.declared.circuit.FlatCircuit.{FlatCircuit as TheFlatCircuit};
 ghost use Rattle.ground_net.specs.declared.net.Net.{Net as TheNet};
-ghost use Rattle.net_meaning.specs.Nets.{IsNet};
+ghost use Rattle.ground_net.specs.Nets.{IsNet};
 ghost use Rattle.expand_whens.specs.Expanding.{IsExpanded};
 ghost use Rattle.net_of_circuit.specs.NetOf.{IsNetOf};
 ghost use Rattle.net_laws.specs.Serves.{Serves};

@@ -1,25 +1,10 @@
-//! What nets and circuits of ground statements need that are made by hand: leaves, drivers that choose, and a module alone.
+//! What nets and circuits of ground statements need that are made by hand: drivers that choose, and a module alone.
 ghost use Rattle.std.specs.Prelude.{ℕ, ◌<◌, ◌^◌, length, All, Some, IfOk};
 ghost use Rattle.base_cases.specs.Drivers.{ReadsBelow};
 
-use bit_words::{Kind, List};
-use ground_net::{Ground, GroundCircuit, GroundLeaf, GroundModule, GroundStmt, Leaf, Role};
-use place_text::Place;
+use bit_words::List;
+use ground_net::{Ground, GroundCircuit, GroundLeaf, GroundModule, GroundStmt};
 use std::alloc::{AllocError, Global};
-
-/// A leaf of one bit that has no name, and stands at the line behind its number.
-pub fn leaf_at(alloc: Global, index: u32, role: Role) -> Leaf {
-    Leaf {
-        name: List::new(alloc),
-        kind: Kind::Unsigned,
-        width: 1,
-        place: Place {
-            line: index.saturating_add(1),
-            column: 1,
-        },
-        role,
-    }
-}
 
 /// The second leaf where the first one is 1, and else the third.
 pub fn choice(alloc: Global, first: u32, second: u32, third: u32) -> Result<Ground, AllocError>

@@ -8,4 +8,4 @@ pub mod hand_codes;
 pub mod hand_nets;
 
 pub use hand_codes::{WordList, repeated};
-pub use hand_nets::{choice, leaf_at, module_alone};
+pub use hand_nets::{choice, module_alone};

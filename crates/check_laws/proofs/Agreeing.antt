@@ -6,7 +6,7 @@ use Rattle.std.proofs.lemmas.Bool.{ltb-true, ltb-false}
 use Rattle.fir_types.specs.declared.name.Name.{Name}
 use Rattle.fir_tree.specs.declared.circuit.Circuit.{Circuit}
 use Rattle.fir_tree.specs.declared.scope.Scope.{Scope}
-use Rattle.fault_order.specs.First.{HasNone}
+use Rattle.place_text.specs.First.{HasNone}
 use Rattle.fir_names.specs.Extents.{uses_in, instances_in}
 use Rattle.fir_names.specs.Scopes.{FirstOf, Means, Names, IsScope}
 use Rattle.fir_names.specs.Faults.{IsFault}

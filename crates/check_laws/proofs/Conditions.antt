@@ -23,7 +23,7 @@ use Rattle.fir_tree.specs.declared.stmt.Stmt.TheOpen.{Stmt-F}
 use Rattle.fir_tree.specs.declared.stmt.Stmt.TheFolds.{map-Stmt, fold-roll-Stmt, fold-roll-Arm}
 use Rattle.fir_tree.specs.declared.stmt.Stmt.TheViews.{out-Stmt}
 use Rattle.fir_tree.specs.declared.stmt.Arm.{Arm, fold-Arm}
-use Rattle.cycle_values.specs.Shapes.{Shape, shaped, same_kind, all_of, shape_of_row}
+use Rattle.prim_ops.specs.Shapes.{Shape, shaped, same_kind, all_of, shape_of_row}
 use Rattle.fir_meaning.specs.Components.{TypedModule}
 use Rattle.fir_meaning.specs.Values.{element_of_shape}
 use Rattle.fir_meaning.specs.WellTyped.{Known, known_in, typed, typed_step, type_behind, leaf_shape, lone_shape, wider_each, chosen_shapes, is_one_unsigned, is_typed, is_condition, of_stmt, of_arm, is_typed_stmt, are_typed, HasTypes}

@@ -7,7 +7,7 @@ use Rattle.std.proofs.lemmas.List.{map-append}
 use Rattle.fir_types.specs.declared.name.Name.{Name}
 use Rattle.fir_tree.specs.declared.circuit.Circuit.{Circuit}
 use Rattle.fir_tree.specs.declared.circuit.Module.{Module}
-use Rattle.fault_order.specs.First.{HasNone}
+use Rattle.place_text.specs.First.{HasNone}
 use Rattle.fir_names.specs.Extents.{Seen, Use, Mark, Refers, Instantiates, Declares, marks_in, seen_behind, uses_behind, declared_by, uses_in, declared_in}
 use Rattle.fir_names.specs.Scopes.{texts, module_names, Names}
 use Rattle.fir_names.specs.Faults.{IsFault, module_twice, name_twice, name_unknown}

@@ -2,7 +2,7 @@
 use Rattle.std.proofs.Common.{◌≡◌, ℕ, Bool, true, false, List, [], ◌∷◌, ◌++◌, map, Option, Some, None, refl, sym, ap, ◌∙◌, subst}
 use Rattle.std.specs.Prelude.{nat_lt, find, ◌==◌, is_some, Contains}
 use Rattle.std.proofs.lemmas.List.Elements.{Contains-append_left, Contains-append_right}
-use Rattle.fault_order.specs.First.{HasNone}
+use Rattle.place_text.specs.First.{HasNone}
 use Rattle.bit_words.specs.declared.value.Kind.{Kind as Sign}
 use Rattle.bit_words.specs.declared.number.Number.{Number}
 use Rattle.bit_words.specs.Numbers.{integer_of_number}

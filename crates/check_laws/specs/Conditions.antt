@@ -6,7 +6,7 @@ use Rattle.fir_tree.specs.declared.stmt.Stmt.{Stmt}
 use Rattle.fir_tree.specs.declared.stmt.Stmt.TheVariants as stmt
 use Rattle.fir_tree.specs.declared.stmt.Stmt.TheViews.{out-Stmt}
 use Rattle.fir_tree.specs.declared.stmt.Arm.{Arm}
-use Rattle.cycle_values.specs.Shapes.{shaped}
+use Rattle.prim_ops.specs.Shapes.{shaped}
 use Rattle.fir_meaning.specs.WellTyped.{Known, typed}
 use Rattle.check_laws.specs.Faults.{StandsIn}
 use Rattle.check_laws.specs.CircuitNodes.{expressions_in}

@@ -2,7 +2,7 @@
 
 ghost use Rattle.std.specs.Prelude.{◌≡◌, ℕ, List, Contains, slice_get, Some};
 ghost use Rattle.std.specs.List.{AllZip};
-ghost use Rattle.fault_order.specs.First.{HasNone};
+ghost use Rattle.place_text.specs.First.{HasNone};
 ghost use Rattle.fir_tree.specs.declared.circuit.Circuit.{Circuit as ACircuit};
 ghost use Rattle.fir_tree.specs.declared.scope.Scope.{Scope as AScope};
 ghost use Rattle.fir_names.specs.Scopes.{IsScope};

@@ -7,7 +7,7 @@ ghost use Rattle.fir_types.specs.Memories.{IsValid};
 ghost use Rattle.type_check.specs.declared.fault.TypeFault.TheVariants.{MemoryField};
 ghost use Rattle.type_check.specs.Memories.{memory_faults};
 ghost use Rattle.type_check.specs.Faults.{IsFault};
-ghost use Rattle.fault_order.specs.First.{HasNone};
+ghost use Rattle.place_text.specs.First.{HasNone};
 ghost use Rattle.fir_tree.specs.declared.circuit.Circuit.{Circuit as ACircuit};
 ghost use Rattle.fir_tree.specs.declared.circuit.Module.{Module as AModule};
 ghost use Rattle.check_laws.specs.Blocks.{Declares};

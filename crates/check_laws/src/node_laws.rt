@@ -2,7 +2,7 @@
 
 ghost use Rattle.std.specs.Prelude.{◌≡◌, ℕ, List, [], ◌∷◌, map, Contains, Some};
 ghost use Rattle.std.specs.List.{AllZip};
-ghost use Rattle.fault_order.specs.First.{HasNone};
+ghost use Rattle.place_text.specs.First.{HasNone};
 ghost use Rattle.place_text.specs.declared.place.Place.{Place as ThePlace};
 ghost use Rattle.fir_types.specs.declared.fir_type.FirType.{FirType as TheType};
 ghost use Rattle.fir_types.specs.declared.name.Name.{Name as TheName};
@@ -16,7 +16,7 @@ ghost use Rattle.fir_tree.specs.declared.expr.Form.TheVariants as form;
 ghost use Rattle.fir_tree.specs.declared.expr.Suffix.TheVariants as suffix;
 ghost use Rattle.fir_tree.specs.declared.stmt.Stmt.{Stmt as AStmt};
 ghost use Rattle.fir_tree.specs.declared.stmt.Stmt.TheVariants as stmt;
-ghost use Rattle.cycle_values.specs.Shapes.{Shape as AShape, shape_of_row};
+ghost use Rattle.prim_ops.specs.Shapes.{Shape as AShape, shape_of_row};
 ghost use Rattle.fir_meaning.specs.Components.{TypedModule};
 ghost use Rattle.fir_meaning.specs.WellTyped.{known_in, typed, HasTypes};
 ghost use Rattle.fir_names.specs.Scopes.{IsScope};

@@ -2,7 +2,7 @@
 
 ghost use Rattle.std.specs.Prelude.{◌≡◌, ℕ, true, List, Contains};
 ghost use Rattle.std.specs.List.{AllZip};
-ghost use Rattle.fault_order.specs.First.{HasNone};
+ghost use Rattle.place_text.specs.First.{HasNone};
 ghost use Rattle.fir_layout.specs.declared.laid.Laid.{Laid as TheLaid};
 ghost use Rattle.fir_grammar.specs.Grammar.{IsCircuit};
 ghost use Rattle.fir_tree.specs.declared.circuit.Circuit.{Circuit as ACircuit};

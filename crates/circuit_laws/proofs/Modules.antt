@@ -12,7 +12,7 @@ use Rattle.fir_meaning.specs.Components.{Declaration, Leaf, told, declared_in_bl
 use Rattle.fir_meaning.specs.Values.{Scene}
 use Rattle.fir_meaning.specs.Drives.{effect, in_turn}
 use Rattle.fir_names.specs.Scopes.{IsScope}
-use Rattle.fault_order.specs.First.{HasNone}
+use Rattle.place_text.specs.First.{HasNone}
 use Rattle.fir_names.specs.Faults.{IsFault}
 use Rattle.fir_names.proofs.Graphs.{some_same}
 use Rattle.fir_meaning.specs.Mentions.{Scope as Types}

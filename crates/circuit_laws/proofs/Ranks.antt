@@ -8,7 +8,7 @@ use Rattle.std.proofs.lemmas.Option.{slice_get_within}
 use Rattle.fir_tree.specs.declared.circuit.Circuit.{Circuit}
 use Rattle.fir_tree.specs.declared.circuit.Module.{Module}
 use Rattle.fir_types.specs.declared.name.Name.{Name}
-use Rattle.fault_order.specs.First.{HasNone}
+use Rattle.place_text.specs.First.{HasNone}
 use Rattle.fir_names.specs.Extents.{instances_in}
 use Rattle.fir_names.specs.Scopes.{texts, module_names, FirstOf, Instance, Reaches, itself, through}
 use Rattle.fir_names.specs.Graphs.{Marked, Spreads}

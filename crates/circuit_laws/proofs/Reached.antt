@@ -10,7 +10,7 @@ use Rattle.fir_tree.specs.declared.scope.Fitted.{Fitted}
 use Rattle.fir_meaning.specs.Components.{Declaration, Component, TypedModule, Design, declarations_of, with_types, modules_of, design_of, module_named, component_named, target_in, target_of, module_within, module_at}
 use Rattle.fir_meaning.specs.WellTyped.{HasTypes}
 use Rattle.fir_names.specs.Scopes.{texts, module_names, FirstOf, Means, Reaches, itself, through, IsScope}
-use Rattle.fault_order.specs.First.{HasNone}
+use Rattle.place_text.specs.First.{HasNone}
 use Rattle.fir_names.specs.Faults.{IsFault, module_twice}
 use Rattle.fir_names.proofs.Graphs.{some_same}
 use Rattle.circuit_laws.specs.Designs.{IsOf}

@@ -21,7 +21,7 @@ use Rattle.fir_names.specs.Extents.{Seen, Use, references, uses_in, declared_in}
 use Rattle.fir_names.specs.Parts as parts
 use Rattle.fir_names.specs.Parts.{Part, stmt_part, arm_part, module_part}
 use Rattle.fir_names.specs.Scopes.{texts, Names, IsScope}
-use Rattle.fault_order.specs.First.{HasNone}
+use Rattle.place_text.specs.First.{HasNone}
 use Rattle.fir_names.specs.Faults.{IsTwice, IsFault, name_twice}
 use Rattle.fir_names.proofs.Graphs.{some_same}
 use Rattle.fir_names.proofs.Agreement.{sees_its_blocks, declares_its_names}

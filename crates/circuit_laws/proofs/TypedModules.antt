@@ -6,7 +6,7 @@ use Rattle.fir_types.specs.declared.leaf.TypeLeaf.{TypeLeaf}
 use Rattle.fir_types.specs.Leaves.{leaves}
 use Rattle.fir_tree.specs.declared.circuit.Module.{Module}
 use Rattle.fir_tree.specs.declared.expr.Expr.{Expr}
-use Rattle.cycle_values.specs.Shapes.{Shape, shape_of_value}
+use Rattle.prim_ops.specs.Shapes.{Shape, shape_of_value}
 use Rattle.fir_meaning.specs.Components.{TypedModule, Component, Leaf, component_named, type_in, type_or_empty}
 use Rattle.fir_meaning.specs.Values.{Integers, scene_with, value}
 use Rattle.fir_meaning.specs.Mentions.{joined, mentions}

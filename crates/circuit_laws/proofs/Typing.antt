@@ -22,7 +22,7 @@ use Rattle.fir_tree.specs.declared.expr.Suffix.{Suffix, fold-Suffix}
 use Rattle.fir_tree.specs.declared.expr.Form.TheOpen.{Form-F, Suffix-F, Expr-F}
 use Rattle.fir_tree.specs.declared.expr.Form.TheFolds.{map-Form, map-Suffix, map-Expr, fold-roll-Form, fold-roll-Suffix, fold-roll-Expr}
 use Rattle.fir_tree.specs.declared.expr.Form.TheViews.{roll-Form, roll-Suffix, roll-Expr}
-use Rattle.cycle_values.specs.Shapes.{Shape, shaped, same_kind, all_of, is_row, width_of_row, shape_of_row}
+use Rattle.prim_ops.specs.Shapes.{Shape, shaped, same_kind, all_of, is_row, width_of_row, shape_of_row}
 use Rattle.fir_meaning.specs.Components.{Leaf, kind_of_leaf, width_of_leaf}
 use Rattle.fir_meaning.specs.Values.{field_type, element_type, field_of_shape, element_of_shape, vector_length, or_itself, kind_or_unsigned, literal_width}
 use Rattle.fir_meaning.specs.Mentions as mention

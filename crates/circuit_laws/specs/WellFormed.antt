@@ -1,6 +1,6 @@
 -- Circuits that the checks of names, types and widths let pass: what every later call that takes a fitted circuit may rest on.
 use Rattle.std.specs.Prelude.{◌≡◌, ℕ, true, length, slice_get, sum_by, Some}
-use Rattle.fault_order.specs.First.{HasNone}
+use Rattle.place_text.specs.First.{HasNone}
 use Rattle.fir_tree.specs.declared.circuit.Module.{Module}
 use Rattle.fir_tree.specs.declared.scope.Fitted.{Fitted}
 use Rattle.fir_meaning.specs.Components.{TypedModule, HasBundles, declarations_of, modules_of, design_of}

@@ -9,8 +9,8 @@ use Rattle.std.proofs.lemmas.Option.{slice_get-map}
 use Rattle.bit_words.specs.declared.value.Kind.{Kind}
 use Rattle.bit_words.specs.declared.value.Kind.TheVariants.{Unsigned, Signed}
 use Rattle.bit_words.specs.Values.{integer, integer_of, InRange}
-use Rattle.cycle_values.specs.Values.{fitted}
-use Rattle.cycle_values.proofs.Fittings.{refitted, value_in_range}
+use Rattle.prim_ops.specs.Values.{fitted}
+use Rattle.prim_ops.proofs.Fittings.{refitted, value_in_range}
 use Rattle.ground_net.specs.declared.net.Leaf.{Leaf}
 use Rattle.ground_net.specs.declared.net.Net.{Net}
 use Rattle.ground_net.specs.declared.net.Ports.{Ports}
@@ -18,8 +18,8 @@ use Rattle.ground_net.specs.declared.net.PortLeaf.{PortLeaf}
 use Rattle.ground_net.specs.declared.net.Role.{Role}
 use Rattle.ground_net.specs.declared.net.Role.TheVariants as role
 use Rattle.ground_net.specs.Watching.{is_given, port_leaf, told_where, inputs}
-use Rattle.net_meaning.specs.Cycles.{fitted_to}
-use Rattle.net_meaning.specs.Nets.{IsNet, AreInputs, input_number}
+use Rattle.ground_net.specs.Cycles.{fitted_to}
+use Rattle.ground_net.specs.Nets.{IsNet, AreInputs, input_number}
 use Rattle.net_run.specs.Keeping.{AreInputValues}
 use Rattle.net_laws.proofs.Integers.{zero_fits}
 use Rattle.stimulus.specs.declared.stimulus.Stimulus.{Stimulus}

@@ -11,7 +11,7 @@ use Rattle.ground_net.specs.declared.net.Net.{Net}
 use Rattle.ground_net.specs.declared.net.Ports.{Ports}
 use Rattle.ground_net.specs.declared.net.Role.TheVariants as role
 use Rattle.ground_net.specs.Watching.{port_leaf, inputs}
-use Rattle.net_meaning.specs.Nets.{HasRole, input_number as number_of_role}
+use Rattle.ground_net.specs.Nets.{HasRole, input_number as number_of_role}
 use Rattle.net_of_circuit.specs.FlatOrder.{Placed, Standing, all_leaves, flat_of, same_path}
 use Rattle.net_of_circuit.specs.NetOf.{MatchingInputs}
 use Rattle.net_laws.specs.Runs.{AreGiven, no_more, one_more}

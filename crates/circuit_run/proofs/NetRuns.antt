@@ -8,9 +8,9 @@ use Rattle.ground_net.specs.declared.net.Net.{Net}
 use Rattle.ground_net.specs.declared.net.PortLeaf.{PortLeaf}
 use Rattle.ground_net.specs.Reads.{IsOrder}
 use Rattle.ground_net.specs.Watching.{watched}
-use Rattle.net_meaning.specs.Cycles.{NetState, Inputs, Valuation, Settled, instant_of, next, first_state}
-use Rattle.net_meaning.specs.Nets.{IsNet}
-use Rattle.net_meaning.proofs.Mentioning.{one_of_net}
+use Rattle.ground_net.specs.Cycles.{NetState, Inputs, Valuation, Settled, instant_of, next, first_state}
+use Rattle.ground_net.specs.Nets.{IsNet}
+use Rattle.ground_net.proofs.Mentioning.{one_of_net}
 use Rattle.net_laws.specs.Runs.{Run, ended, cycle}
 use Rattle.net_run.specs.Seeing.{value_at}
 use Rattle.stimulus.specs.declared.stimulus.Stimulus.{Stimulus}

@@ -22,10 +22,10 @@ use Rattle.ground_net.specs.declared.net.PortLeaf.{PortLeaf}
 use Rattle.ground_net.specs.declared.net.Role.TheVariants as role
 use Rattle.ground_net.specs.Reads.{IsOrder}
 use Rattle.ground_net.specs.Watching.{inputs}
-use Rattle.net_meaning.specs.Shapes.{Shape}
-use Rattle.net_meaning.specs.Cycles.{NetState, Capture, captures}
-use Rattle.net_meaning.specs.Cycles as cycles
-use Rattle.net_meaning.specs.Nets.{IsIn, IsWithin, AreInputs, leaf_shape, element_shape, shape_or_none}
+use Rattle.ground_net.specs.Shapes.{Shape}
+use Rattle.ground_net.specs.Cycles.{NetState, Capture, captures}
+use Rattle.ground_net.specs.Cycles as cycles
+use Rattle.ground_net.specs.Nets.{IsIn, IsWithin, AreInputs, leaf_shape, element_shape, shape_or_none}
 use Rattle.net_of_circuit.specs.FlatOrder.{Placed, Standing, all_leaves, all_memories, memory_in}
 use Rattle.net_of_circuit.specs.NetOf.{Given, Without_value, Held, Kept, Driven, part_of_role, part_of, is_input_of_main, is_late_read, MatchingInputs}
 use Rattle.net_laws.specs.Serves.{Serves, Matches}

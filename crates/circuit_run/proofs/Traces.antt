@@ -13,8 +13,8 @@ use Rattle.ground_net.specs.declared.net.Ports.{Ports}
 use Rattle.ground_net.specs.declared.net.PortLeaf.{PortLeaf}
 use Rattle.ground_net.specs.Reads.{IsOrder}
 use Rattle.ground_net.specs.Watching.{inputs, watched}
-use Rattle.net_meaning.specs.Cycles.{first_state}
-use Rattle.net_meaning.specs.Nets.{IsWithin}
+use Rattle.ground_net.specs.Cycles.{first_state}
+use Rattle.ground_net.specs.Nets.{IsWithin}
 use Rattle.net_laws.specs.Serves.{Serves, Matches}
 use Rattle.net_laws.proofs.Integers.{zero_fits}
 use Rattle.net_laws.proofs.Traces.{run_traces}

@@ -8,8 +8,8 @@ use Rattle.ground_net.specs.declared.net.Ordered.{Ordered}
 use Rattle.ground_net.specs.declared.net.Ports.{Ports}
 use Rattle.ground_net.specs.Reads.{IsOrder}
 use Rattle.ground_net.specs.Watching.{inputs, watched}
-use Rattle.net_meaning.specs.Cycles.{NetState, Inputs, first_state}
-use Rattle.net_meaning.specs.Nets.{IsNet}
+use Rattle.ground_net.specs.Cycles.{NetState, Inputs, first_state}
+use Rattle.ground_net.specs.Nets.{IsNet}
 use Rattle.net_laws.specs.Runs.{Run}
 use Rattle.net_run.specs.declared.kept.Kept.{Kept}
 use Rattle.net_run.specs.Keeping.{IsKept}

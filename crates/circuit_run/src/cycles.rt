@@ -1,7 +1,7 @@
 //! The lines of cycles.
 
 ghost use Rattle.std.specs.Prelude.{◌≡◌, ◌+◌, ◌≤◌, IfOk};
-ghost use Rattle.net_meaning.specs.Cycles.{NetState};
+ghost use Rattle.ground_net.specs.Cycles.{NetState};
 ghost use Rattle.net_run.specs.Keeping.{IsKept, StandsForState};
 ghost use Rattle.stimulus.specs.Rows.{row_in};
 ghost use Rattle.circuit_run.specs.NetRuns.{IsPlanned, LeadsOn};

@@ -1,7 +1,7 @@
 -- A circuit of one clock has no fault.
 use Rattle.std.proofs.Common.{◌≡◌, ◌↔◌, ℕ, Bool, true, false, List, Option, Some, None, slice_get, refl, sym, ◌∙◌, subst, true≢false}
 use Rattle.place_text.specs.declared.place.Place.{Place}
-use Rattle.fault_order.specs.First.{HasNone}
+use Rattle.place_text.specs.First.{HasNone}
 use Rattle.fir_tree.specs.declared.scope.Fitted.{Fitted}
 use Rattle.fir_meaning.specs.Components.{Design, TypedModule, Component, Leaf, FlatLeaf, design_of, flat, type_in}
 use Rattle.fir_meaning.proofs.Tracking.{none_some}

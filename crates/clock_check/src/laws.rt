@@ -3,7 +3,7 @@
 ghost use Rattle.std.specs.Prelude.{◌≡◌, ◌↔◌, ◌++◌, flat_map, ℕ, Bool, true, List, Some, slice_get, Contains};
 ghost use Rattle.std.specs.Prelude.{nat_eq};
 ghost use Rattle.std.specs.Map.{lookup};
-ghost use Rattle.fault_order.specs.First.{HasNone};
+ghost use Rattle.place_text.specs.First.{HasNone};
 ghost use Rattle.fir_tree.specs.declared.scope.Fitted.{Fitted as FittedCircuit};
 ghost use Rattle.fir_meaning.specs.Components.{Design as ADesign, TypedModule, Leaf, FlatLeaf, declarations_of, design_of, modules_of, module_at, type_in, flat, target_of};
 ghost use Rattle.fir_meaning.specs.ClockRoot.{ClockFrom, IsRooted, HasOneClock, clock_root};

@@ -4,7 +4,7 @@ use Rattle.std.proofs.Math.Pow.{mod-mod-pow}
 use Rattle.std.proofs.Math.Nat.{add-mul-mod_self_right, add-mul-div_right, mul-add-div_right, div-eq_of_lt}
 use Rattle.std.proofs.lemmas.Nat.{mod-pow-add, and_mask}
 use Rattle.bit_words.specs.declared.value.Kind.{Kind}
-use Rattle.cycle_values.specs.Values.{fitted}
+use Rattle.prim_ops.specs.Values.{fitted}
 
 pub fitted_bits : (kind : Kind) (width n : ℕ) → width ≤ 128 → (fitted kind width (pos n)).bits ≡ n % 2 ^ width
 fitted_bits kind width n h = let e : min width 128 ≡ width = omega (arith, h) in ap (λ w. n % 2 ^ w) e

@@ -4,10 +4,10 @@ use Rattle.std.proofs.lemmas.Bool.{lt-ltb, le-ltb}
 use Rattle.std.proofs.lemmas.List.{get_or-set_same}
 use Rattle.bit_words.specs.declared.value.Kind.{Kind}
 use Rattle.bit_words.specs.declared.value.Value.{Value}
-use Rattle.cycle_values.specs.Values.{fitted}
-use Rattle.net_meaning.specs.Shapes.{shaped, shape_of_value}
-use Rattle.net_meaning.specs.Words.{value_at, high_at}
-use Rattle.net_meaning.proofs.Shaping.{fitted_shape}
+use Rattle.prim_ops.specs.Values.{fitted}
+use Rattle.ground_net.specs.Shapes.{shaped, shape_of_value}
+use Rattle.ground_net.specs.Words.{value_at, high_at}
+use Rattle.ground_net.proofs.Shaping.{fitted_shape}
 use Rattle.flat_code.specs.declared.instr.Op.{Op}
 use Rattle.flat_code.specs.declared.instr.Op.TheVariants as op
 use Rattle.flat_code.specs.declared.instr.Instr.{Instr}

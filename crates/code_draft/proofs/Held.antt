@@ -2,8 +2,8 @@
 use Rattle.std.proofs.Common.{◌≡◌, ℕ, ◌+◌, ◌*◌, ◌/◌, ◌%◌, ◌^◌, ◌<◌, ◌≤◌, if◌then◌else◌, List, slice_index, min, sym, ap, ap₂, ◌∙◌, arith, ⊎_elim, mod-eq_of_lt, pow_mono, div-add-mod'}
 use Rattle.std.proofs.lemmas.Bool.{lt-ltb, le-ltb, cases_lt}
 use Rattle.bit_words.specs.declared.value.Value.{Value}
-use Rattle.cycle_values.proofs.Fittings.{same_value}
-use Rattle.net_meaning.specs.Shapes.{Shape}
+use Rattle.prim_ops.proofs.Fittings.{same_value}
+use Rattle.ground_net.specs.Shapes.{Shape}
 use Rattle.flat_code.specs.declared.instr.Location.{Location}
 use Rattle.flat_code.specs.Meaning.{location_value, location_high}
 use Rattle.code_draft.specs.Drafts.{Holds}

@@ -11,3 +11,8 @@ pub mod Joining
 pub mod Stepping
 pub mod Building
 pub mod Reading
+pub mod Loud
+pub mod PublishReading
+pub mod Written
+pub mod PortReading
+pub mod Effects

@@ -3,9 +3,9 @@ use Rattle.std.specs.Prelude.{◌≡◌, ℕ, ◌+◌, ◌*◌, ◌/◌, ◌%◌
 use Rattle.bit_words.specs.declared.value.Kind.{Kind}
 use Rattle.bit_words.specs.declared.value.Value.{Value}
 use Rattle.phase_core.specs.declared.model.Publication.{Publication}
-use Rattle.cycle_values.specs.Values.{fitted}
-use Rattle.net_meaning.specs.Shapes.{Shape, shaped, shape_of_value}
-use Rattle.net_meaning.specs.Words.{value_at}
+use Rattle.prim_ops.specs.Values.{fitted}
+use Rattle.ground_net.specs.Shapes.{Shape, shaped, shape_of_value}
+use Rattle.ground_net.specs.Words.{value_at}
 use Rattle.flat_code.specs.declared.instr.Op.{Op}
 use Rattle.flat_code.specs.declared.instr.Op.TheVariants as op
 use Rattle.flat_code.specs.declared.instr.Instr.{Instr}

@@ -2,7 +2,7 @@
 
 ghost use Rattle.std.specs.Prelude.{◌≡◌, ◌≤◌, ◌<◌, ◌+◌, ◌^◌, ◌-◌, [], IfOk, OnOk};
 ghost use Rattle.flat_code.specs.Fine.{further_words, location_slots};
-ghost use Rattle.net_meaning.specs.Shapes.{shaped};
+ghost use Rattle.ground_net.specs.Shapes.{shaped};
 ghost use Rattle.code_draft.specs.Drafts.{IsDraft, Makes, IsConstant, IsWord, IsInput, with_instr};
 ghost use Rattle.code_draft.specs.Segments.{Step};
 

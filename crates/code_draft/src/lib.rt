@@ -1,18 +1,27 @@
 //! Code that grows by pieces: instructions that fetch constants, shared words and inputs or compute words, and wide values, each with
-//! slots of their own. Keeps the contract that every frame that solves the code has the wanted value at the location, that a run leaves such a
-//! frame, and that pieces come together as one code.
+//! slots of their own; what codes publish, the words of a value that stands at a location and what a port of a memory writes; and whole
+//! codes from drafts. Keeps the contracts that every frame that solves the code has the wanted value at the location, that a run leaves such
+//! a frame, that pieces come together as one code, that in every frame in which the values stand there exactly these words are published
+//! behind what was published before (FIRRTL specification 3.0, "Memories"), and that a step of the finished code has the effects of its
+//! draft.
 #![tactic(auto)]
 
 pub mod code_pieces;
 pub mod computing;
 pub mod draft;
 pub mod fetching;
+pub mod finishing;
 pub mod laws;
+pub mod publishing;
 pub mod steps;
 pub mod wide_values;
+pub mod writing;
 
 pub use computing::computed;
 pub use draft::Draft;
 pub use fetching::{constant, input, load, low_mask};
+pub use finishing::finish;
+pub use publishing::publish;
 pub use steps::{add_instr, instr_of};
 pub use wide_values::wide_value;
+pub use writing::publish_by;

@@ -2,7 +2,7 @@
 
 ghost use Rattle.std.specs.Prelude.{◌≡◌, ◌≤◌, ◌<◌, ◌+◌, Some, All, IfOk, OnOk};
 ghost use Rattle.flat_code.specs.Fine.{form_shape, location_shapes, InRegion, region_of, location_slots, slots_of};
-ghost use Rattle.net_meaning.specs.Shapes.{shaped};
+ghost use Rattle.ground_net.specs.Shapes.{shaped};
 ghost use Rattle.code_draft.specs.Drafts.{IsDraft, Makes, Stands, IsForm};
 ghost use Rattle.code_draft.specs.Segments.{Step};
 

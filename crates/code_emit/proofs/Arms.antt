@@ -6,8 +6,8 @@ use Rattle.bit_words.specs.declared.value.Kind.{Kind}
 use Rattle.prim_ops.specs.declared.operation.PrimOp.{PrimOp}
 use Rattle.ground_net.specs.declared.ground.Ground.{Ground}
 use Rattle.ground_net.specs.declared.ground.Ground.TheVariants.{Leaf, Op, Mux, Select, Load, Fit}
-use Rattle.net_meaning.specs.Shapes.{Shape, shaped, Table, shape, all_of, shape_of_row, shape_of_choice, shape_of_items, is_index, shape_of_load, shape_of_fit}
-use Rattle.net_meaning.proofs.Shaping.{and_then, shape-Leaf}
+use Rattle.ground_net.specs.Shapes.{Shape, shaped, Table, shape, all_of, shape_of_row, shape_of_choice, shape_of_items, is_index, shape_of_load, shape_of_fit}
+use Rattle.ground_net.proofs.Shaping.{and_then, shape-Leaf}
 use Rattle.flat_code.specs.declared.instr.Location.{Location}
 use Rattle.flat_code.specs.Meaning.{location_shape}
 use Rattle.flat_code.specs.Fine.{location_shapes, shape_of_picked}

@@ -1,10 +1,10 @@
 -- Choices one behind the other.
 use Rattle.std.proofs.Common.{◌≡◌, ℕ, zero, suc, ◌-◌, ◌<◌, ◌≤◌, true≢false, List, [], ◌∷◌, length, get_or, drop, take, Some, None, option_and_then, if◌then◌else◌, ◌&&◌, refl, sym, ap, ap₂, ◌∙◌, arith, All}
 use Rattle.std.specs.Prelude.{IsSome}
-use Rattle.cycle_values.specs.Values.{is_one}
+use Rattle.prim_ops.specs.Values.{is_one}
 use Rattle.ground_net.specs.Grounds.{chosen}
-use Rattle.net_meaning.specs.Shapes.{Shape, shape_of_choice, is_unsigned, same_shape}
-use Rattle.net_meaning.proofs.Shaping.{choice_shape}
+use Rattle.ground_net.specs.Shapes.{Shape, shape_of_choice, is_unsigned, same_shape}
+use Rattle.ground_net.proofs.Shaping.{choice_shape}
 use Rattle.flat_code.specs.declared.instr.Location.{Location}
 use Rattle.flat_code.specs.Meaning.{location_shape, location_value, location_values}
 use Rattle.flat_code.specs.Fine.{location_shapes}

@@ -6,15 +6,15 @@ use Rattle.bit_words.specs.declared.value.Kind.{Kind}
 use Rattle.bit_words.specs.declared.value.Kind.TheVariants.{Unsigned, Signed}
 use Rattle.bit_words.specs.declared.value.Value.{Value}
 use Rattle.bit_words.specs.Values.{integer_of}
-use Rattle.cycle_values.specs.Values.{fitted, lone, is_one}
+use Rattle.prim_ops.specs.Values.{fitted, lone, is_one}
 use Rattle.ground_net.specs.declared.ground.Ground.{Ground}
 use Rattle.ground_net.specs.declared.ground.Ground.TheVariants.{Const, Leaf, Op, Mux, Select, Load, Fit}
 use Rattle.ground_net.specs.Grounds.{Instant, value, chosen, selected, loaded}
 use Rattle.ground_net.proofs.Layers.{value-Const, value-Leaf, value-Op, value-Mux, value-Select, value-Load, value-Fit}
 use Rattle.prim_ops.specs.declared.operation.PrimOp.{PrimOp}
-use Rattle.net_meaning.specs.Shapes.{Shape, shaped, shape_of_value, HasShapes, shape, is_unsigned, shape_of_load}
-use Rattle.net_meaning.specs.Words.{value_at, high_at}
-use Rattle.net_meaning.proofs.Shaping.{fitted_shape, shapes_hold, if_some, both_true}
+use Rattle.ground_net.specs.Shapes.{Shape, shaped, shape_of_value, HasShapes, shape, is_unsigned, shape_of_load}
+use Rattle.ground_net.specs.Words.{value_at, high_at}
+use Rattle.ground_net.proofs.Shaping.{fitted_shape, shapes_hold, if_some, both_true}
 use Rattle.flat_code.specs.declared.instr.Form.{Form}
 use Rattle.flat_code.specs.declared.instr.Form.TheVariants as form
 use Rattle.flat_code.specs.declared.instr.Location.{Location}

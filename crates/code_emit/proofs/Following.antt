@@ -10,8 +10,8 @@ use Rattle.ground_net.specs.declared.ground.Ground.{Ground}
 use Rattle.ground_net.specs.declared.ground.Ground.TheVariants.{Op, Mux}
 use Rattle.ground_net.specs.Grounds.{mentions}
 use Rattle.ground_net.proofs.Layers.{all_mentions, mentions-Op, mentions-Mux}
-use Rattle.net_meaning.specs.Shapes.{Shape, Table, shape, all_of, shape_of_choice, shape_of_row, is_row, width_of_row}
-use Rattle.net_meaning.proofs.Shaping.{and_then}
+use Rattle.ground_net.specs.Shapes.{Shape, Table, shape, all_of, shape_of_choice, shape_of_row, is_row, width_of_row}
+use Rattle.ground_net.proofs.Shaping.{and_then}
 use Rattle.flat_code.specs.declared.instr.Location.{Location}
 use Rattle.flat_code.specs.Fine.{among, location_slots, slots_of, location_shapes}
 use Rattle.flat_code.specs.Meaning.{location_shape}

@@ -7,7 +7,7 @@ use Rattle.bit_words.specs.declared.value.Value.{Value}
 use Rattle.prim_ops.specs.declared.operation.PrimOp.{PrimOp}
 use Rattle.ground_net.specs.declared.ground.Ground.{Ground, fold-Ground, the_lemmas}
 use Rattle.ground_net.specs.declared.ground.Ground.TheOpen.{Ground-F}
-use Rattle.ground_net.specs.declared.ground.Ground.TheVariants.{Const, Leaf, Op, Mux, Select, Load, Fit}
+use Rattle.ground_net.specs.declared.ground.Ground.TheVariants.{Const, Leaf, Op, Mux, Select, Indexed, Load, Fit}
 use Rattle.ground_net.proofs.Layers.{maps}
 use Rattle.flat_code.specs.declared.instr.Location.{Location}
 use Rattle.code_draft.specs.declared.draft.Draft.{Draft}
@@ -24,6 +24,7 @@ leaf_in (Ground-F.Leaf x) = true
 leaf_in (Ground-F.Op prim operands params) = false
 leaf_in (Ground-F.Mux items) = false
 leaf_in (Ground-F.Select index items) = false
+leaf_in (Ground-F.Indexed numbers indices lengths) = false
 leaf_in (Ground-F.Load memory leaf items) = false
 leaf_in (Ground-F.Fit kind width items) = false
 
@@ -36,6 +37,7 @@ number_in (Ground-F.Leaf x) = x
 number_in (Ground-F.Op prim operands params) = 0
 number_in (Ground-F.Mux items) = 0
 number_in (Ground-F.Select index items) = 0
+number_in (Ground-F.Indexed numbers indices lengths) = 0
 number_in (Ground-F.Load memory leaf items) = 0
 number_in (Ground-F.Fit kind width items) = 0
 
@@ -62,6 +64,9 @@ leaf-Mux gs = grind (arith, common_steps, the_lemmas, maps)
 
 pub leaf-Select : (is gs : List Ground) → is_leaf (Select is gs) ≡ false
 leaf-Select is gs = grind (arith, common_steps, the_lemmas, maps)
+
+pub leaf-Indexed : (ns : List ℕ) (is : List Ground) (ls : List ℕ) → is_leaf (Indexed ns is ls) ≡ false
+leaf-Indexed ns is ls = grind (arith, common_steps, the_lemmas, maps)
 
 pub leaf-Load : (m k : ℕ) (gs : List Ground) → is_leaf (Load m k gs) ≡ false
 leaf-Load m k gs = grind (arith, common_steps, the_lemmas, maps)

@@ -20,3 +20,4 @@ pub mod Leaves
 pub mod Nesting
 pub mod Choosing
 pub mod Following
+pub mod Indexing

@@ -9,7 +9,7 @@ use Rattle.prim_ops.specs.declared.operation.PrimOp.{PrimOp}
 use Rattle.prim_ops.specs.declared.operation.PrimOp.TheVariants as prim
 use Rattle.prim_ops.specs.Results.{integer_result}
 use Rattle.prim_ops.proofs.Residues.{same_low, Level-lower, Level-times, Level-add, Level-neg, Level-cut, word_level}
-use Rattle.cycle_values.specs.Values.{fitted}
+use Rattle.prim_ops.specs.Values.{fitted}
 use Rattle.flat_code.specs.declared.instr.Op.TheVariants as op
 use Rattle.flat_code.specs.declared.instr.Location.{Location}
 use Rattle.flat_code.specs.Meaning.{location_value, location_values, minus}

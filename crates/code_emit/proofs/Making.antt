@@ -3,7 +3,7 @@ use Rattle.std.proofs.Common.{◌≡◌, ℕ, ◌^◌, ◌<◌, ◌≤◌, true,
 use Rattle.std.proofs.lemmas.Bool.{le-ltb}
 use Rattle.bit_words.specs.declared.value.Kind.{Kind}
 use Rattle.bit_words.specs.declared.value.Value.{Value}
-use Rattle.net_meaning.specs.Shapes.{Shape, shaped, shape_of_value}
+use Rattle.ground_net.specs.Shapes.{Shape, shaped, shape_of_value}
 use Rattle.flat_code.specs.declared.instr.Instr.{Instr}
 use Rattle.flat_code.specs.declared.instr.Location.{Location}
 use Rattle.flat_code.specs.Meaning.{location_values}

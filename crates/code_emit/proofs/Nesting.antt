@@ -10,13 +10,13 @@ use Rattle.prim_ops.specs.Operations.{arity_of}
 use Rattle.prim_ops.specs.Kinds.{row_kind}
 use Rattle.prim_ops.specs.Results.{integer_result}
 use Rattle.prim_ops.proofs.Residues.{word_low}
-use Rattle.cycle_values.specs.Values.{operation}
+use Rattle.prim_ops.specs.Values.{operation}
 use Rattle.ground_net.specs.declared.ground.Ground.{Ground}
 use Rattle.ground_net.specs.declared.ground.Ground.TheVariants.{Op}
 use Rattle.ground_net.specs.Grounds.{value}
 use Rattle.ground_net.proofs.Layers.{value-Op}
-use Rattle.net_meaning.specs.Shapes.{Shape, shaped, shape_of_value, Table, shape, all_of, params_fit, is_row, width_of_row, shape_of_row}
-use Rattle.net_meaning.proofs.Shaping.{and_then, if_some, both_true, operation_shape}
+use Rattle.ground_net.specs.Shapes.{Shape, shaped, shape_of_value, Table, shape, all_of, params_fit, is_row, width_of_row, shape_of_row}
+use Rattle.ground_net.proofs.Shaping.{and_then, if_some, both_true, operation_shape}
 use Rattle.flat_code.specs.declared.instr.Location.{Location}
 use Rattle.flat_code.specs.Meaning.{location_shape, location_values}
 use Rattle.flat_code.specs.Fine.{location_shapes}

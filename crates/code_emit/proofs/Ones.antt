@@ -10,8 +10,8 @@ use Rattle.prim_ops.specs.declared.operation.PrimOp.TheVariants as prim
 use Rattle.prim_ops.specs.Results.{floor_div}
 use Rattle.prim_ops.specs.Widths.{width_on_one}
 use Rattle.prim_ops.proofs.Residues.{word_low}
-use Rattle.cycle_values.specs.Values.{operation}
-use Rattle.net_meaning.specs.Shapes.{shaped, shape_of_row}
+use Rattle.prim_ops.specs.Values.{operation}
+use Rattle.ground_net.specs.Shapes.{shaped, shape_of_row}
 use Rattle.flat_code.specs.declared.instr.Op.TheVariants as op
 use Rattle.flat_code.specs.declared.instr.Location.{Location}
 use Rattle.flat_code.specs.Meaning.{location_value, extension}

@@ -8,9 +8,9 @@ use Rattle.prim_ops.specs.declared.operation.PrimOp.{PrimOp}
 use Rattle.prim_ops.specs.declared.operation.PrimOp.TheVariants as prim
 use Rattle.prim_ops.specs.Kinds.{where_same, row_kind}
 use Rattle.prim_ops.specs.Results.{floor_div}
-use Rattle.cycle_values.specs.Values.{operation}
-use Rattle.net_meaning.specs.Shapes.{shaped, shape_of_row, is_row, width_of_row}
-use Rattle.net_meaning.proofs.Shaping.{and_then, if_some}
+use Rattle.prim_ops.specs.Values.{operation}
+use Rattle.ground_net.specs.Shapes.{shaped, shape_of_row, is_row, width_of_row}
+use Rattle.ground_net.proofs.Shaping.{and_then, if_some}
 use Rattle.flat_code.specs.declared.instr.Op.{Op}
 use Rattle.flat_code.specs.declared.instr.Op.TheVariants as op
 use Rattle.flat_code.specs.declared.instr.Instr.{Instr}

@@ -13,8 +13,8 @@ use Rattle.prim_ops.specs.Kinds.{row_kind}
 use Rattle.prim_ops.specs.Widths.{width_number, row_width}
 use Rattle.prim_ops.proofs.Formulas.{in_bits}
 use Rattle.ground_net.proofs.Layers.{maps}
-use Rattle.net_meaning.specs.Shapes.{Shape, shaped, params_fit, is_row, width_of_row, shape_of_row}
-use Rattle.net_meaning.proofs.Shaping.{and_then, if_some, both_true}
+use Rattle.ground_net.specs.Shapes.{Shape, shaped, params_fit, is_row, width_of_row, shape_of_row}
+use Rattle.ground_net.proofs.Shaping.{and_then, if_some, both_true}
 use Rattle.flat_code.specs.declared.instr.Location.{Location}
 use Rattle.flat_code.specs.Meaning.{location_shape}
 use Rattle.flat_code.specs.Fine.{location_shapes}

@@ -1,14 +1,15 @@
 -- Kinds and widths of locations and of expressions.
-use Rattle.std.proofs.Common.{◌≡◌, ℕ, zero, suc, ◌-◌, ◌≤◌, Bool, true, false, ◌&&◌, nat_le, List, [], ◌∷◌, ◌++◌, length, get_or, Option, Some, None, option_and_then, refl, sym, subst, ap, ap₂, ◌∙◌, arith, if◌then◌else◌, true≢false}
+use Rattle.std.proofs.Common.{◌≡◌, ℕ, zero, suc, ◌-◌, ◌≤◌, Bool, true, false, ◌&&◌, ◌==◌, nat_le, map, List, [], ◌∷◌, ◌++◌, length, get_or, Option, Some, None, option_and_then, refl, sym, subst, ap, ap₂, ◌∙◌, arith, if◌then◌else◌, true≢false}
 use Rattle.std.specs.Prelude.{IsSome, Result, Ok, Err, IfOk}
 use Rattle.std.proofs.lemmas.List.{length-map}
 use Rattle.std.proofs.lemmas.Bool.Decides.{nat_tests}
 use Rattle.bit_words.specs.declared.value.Kind.{Kind}
 use Rattle.prim_ops.specs.declared.operation.PrimOp.{PrimOp}
 use Rattle.ground_net.specs.declared.ground.Ground.{Ground}
-use Rattle.ground_net.specs.declared.ground.Ground.TheVariants.{Op, Mux, Select, Load, Fit}
-use Rattle.net_meaning.specs.Shapes.{Shape, shaped, Table, shape, all_of, shape_of_row, shape_of_choice, shape_of_items, shape_of_selection, is_index, shape_of_load, shape_of_fit, is_unsigned, same_shape}
-use Rattle.net_meaning.proofs.Shaping.{and_then, if_some, shape-Op, shape-Mux, shape-Select, shape-Load, shape-Fit}
+use Rattle.ground_net.specs.declared.ground.Ground.TheVariants.{Op, Mux, Select, Indexed, Load, Fit}
+use Rattle.ground_net.specs.Grounds.{element_count}
+use Rattle.ground_net.specs.Shapes.{Shape, shaped, Table, shape, all_of, shape_of_row, shape_of_choice, shape_of_items, shape_of_selection, are_index_shapes, shape_of_indexed, is_index, shape_of_load, shape_of_fit, is_unsigned, same_shape}
+use Rattle.ground_net.proofs.Shaping.{and_then, if_some, shape-Op, shape-Mux, shape-Select, shape-Indexed, shape-Load, shape-Fit}
 use Rattle.flat_code.specs.declared.instr.Location.{Location}
 use Rattle.flat_code.specs.Meaning.{location_shape}
 use Rattle.flat_code.specs.Fine.{location_shapes}
@@ -71,6 +72,16 @@ module _ (table : Table) (g : Ground) (some : IsSome (shape g table)) where
       let index = and_then (λ i. option_and_then (shape_of_selection i) (all_of (shapes_in table gs))) (all_of (shapes_in table is)) whole.0 (sym made ∙ whole.1) in
       let parts = and_then (shape_of_selection index.0) (all_of (shapes_in table gs)) whole.0 index.2 in
       let test = if_some (is_index index.0) (shape_of_items parts.0) whole.0 parts.2 in
+      (index.0, parts.0, index.1, parts.1, test.0, test.1 ∙ sym whole.1)
+
+  pub indexed_parts : (ns : List ℕ) (is : List Ground) (ls : List ℕ) → g ≡ Indexed ns is ls
+      → (i : List Shape) × (ss : List Shape) × (all_of (shapes_in table is) ≡ Some i) × (all_of (map table.leaf ns) ≡ Some ss) × ((are_index_shapes i ls && (length ss == element_count ls)) ≡ true) × (shape_of_items ss ≡ shape g table)
+  indexed_parts ns is ls e =
+      let whole = some_of (shape g table) some in
+      let made = ap (λ g. shape g table) e ∙ shape-Indexed ns is ls table in
+      let index = and_then (λ i. option_and_then (shape_of_indexed i ls) (all_of (map table.leaf ns))) (all_of (shapes_in table is)) whole.0 (sym made ∙ whole.1) in
+      let parts = and_then (shape_of_indexed index.0 ls) (all_of (map table.leaf ns)) whole.0 index.2 in
+      let test = if_some (are_index_shapes index.0 ls && (length parts.0 == element_count ls)) (shape_of_items parts.0) whole.0 parts.2 in
       (index.0, parts.0, index.1, parts.1, test.0, test.1 ∙ sym whole.1)
 
   pub load_parts : (m k : ℕ) (gs : List Ground) → g ≡ Load m k gs → (ss : List Shape) × (all_of (shapes_in table gs) ≡ Some ss) × (shape_of_load (table.element m k) ss ≡ shape g table)

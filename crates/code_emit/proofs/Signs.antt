@@ -10,7 +10,7 @@ use Rattle.bit_words.proofs.Congruence.{fit_same, integer_in_range}
 use Rattle.prim_ops.specs.declared.operation.PrimOp.TheVariants as op
 use Rattle.prim_ops.specs.Results.{one_if, floor_div}
 use Rattle.prim_ops.proofs.Residues.{word_low}
-use Rattle.cycle_values.specs.Values.{operation}
+use Rattle.prim_ops.specs.Values.{operation}
 use Rattle.flat_code.specs.Meaning.{with_sign}
 use Rattle.code_emit.specs.Ways.{turned_if}
 use Rattle.code_emit.proofs.WordLaws.{by_test, turned_test, plain_word, raised}

@@ -4,8 +4,8 @@ use Rattle.std.specs.Prelude.{IfSome}
 use Rattle.std.proofs.lemmas.Bool.{le-ltb}
 use Rattle.bit_words.specs.declared.value.Kind.{Kind}
 use Rattle.prim_ops.specs.declared.operation.PrimOp.{PrimOp}
-use Rattle.net_meaning.specs.Shapes.{Shape, shaped, shape_of_row}
-use Rattle.net_meaning.proofs.Shaping.{operation_shape}
+use Rattle.ground_net.specs.Shapes.{Shape, shaped, shape_of_row}
+use Rattle.ground_net.proofs.Shaping.{operation_shape}
 use Rattle.flat_code.specs.declared.instr.Op.{Op}
 use Rattle.flat_code.specs.declared.instr.Instr.{Instr}
 use Rattle.flat_code.specs.declared.instr.Port.{Port}

@@ -5,9 +5,9 @@ use Rattle.bit_words.specs.declared.value.Kind.{Kind}
 use Rattle.bit_words.specs.declared.value.Value.{Value}
 use Rattle.prim_ops.specs.declared.operation.PrimOp.{PrimOp}
 use Rattle.prim_ops.specs.declared.operation.PrimOp.TheVariants as prim
-use Rattle.cycle_values.specs.Values.{operation}
+use Rattle.prim_ops.specs.Values.{operation}
 use Rattle.ground_net.specs.Grounds.{chosen}
-use Rattle.net_meaning.specs.Shapes.{shaped, shape_of_row}
+use Rattle.ground_net.specs.Shapes.{shaped, shape_of_row}
 use Rattle.flat_code.specs.declared.instr.Op.{Op}
 use Rattle.flat_code.specs.declared.instr.Op.TheVariants as op
 use Rattle.flat_code.specs.declared.instr.Instr.{Instr}

@@ -14,7 +14,7 @@ use Rattle.prim_ops.specs.declared.operation.PrimOp.TheVariants as op
 use Rattle.prim_ops.specs.Results.{one_if, quotient, remainder, floor_div}
 use Rattle.prim_ops.proofs.Residues.{sum_low, difference_low, product_low, raised_low, shifted_low, same_low}
 use Rattle.prim_ops.proofs.Moves.{and_low, or_low, xor_low}
-use Rattle.cycle_values.specs.Values.{operation}
+use Rattle.prim_ops.specs.Values.{operation}
 use Rattle.flat_code.specs.Meaning.{minus, extension, over, left_over}
 
 -- a is the word of x

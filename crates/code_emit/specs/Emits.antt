@@ -2,11 +2,12 @@
 use Rattle.std.specs.Prelude.{◌≡◌, ℕ, ◌+◌, ◌*◌, ◌<◌, List, map, slice_get, Option, Some, option_map, option_and_then, nat_lt, if◌then◌else◌, pos, All, IsSome}
 use Rattle.bit_words.specs.declared.value.Kind.TheVariants.{Unsigned}
 use Rattle.bit_words.specs.declared.value.Value.{Value}
-use Rattle.cycle_values.specs.Values.{fitted}
+use Rattle.prim_ops.specs.Values.{fitted}
 use Rattle.ground_net.specs.declared.ground.Ground.{Ground}
+use Rattle.ground_net.specs.declared.ground.Ground.TheVariants.{Leaf}
 use Rattle.ground_net.specs.Grounds.{Instant, value}
-use Rattle.net_meaning.specs.Shapes.{Shape, shaped, shape_of_value, Table, shape}
-use Rattle.net_meaning.specs.Words.{value_at}
+use Rattle.ground_net.specs.Shapes.{Shape, shaped, shape_of_value, Table, shape}
+use Rattle.ground_net.specs.Words.{value_at}
 use Rattle.flat_code.specs.declared.instr.Location.{Location}
 use Rattle.flat_code.specs.Meaning.{location_shape, location_values}
 use Rattle.flat_code.specs.Fine.{InRegion, further_words}
@@ -88,6 +89,10 @@ pub record MakesAll (S : Sources) (gs : List Ground) (old new : Draft) (ss : Lis
 
 abbrev pub EmitsAll : Sources → List Ground → Draft → Draft → List Location → Type 0
 EmitsAll S gs old new ss = IsDraft old → AreSources S old → MakesAll S gs old new ss
+
+-- leaves as expressions
+abbrev pub as_leaves : List ℕ → List Ground
+as_leaves numbers = map (λ x. Leaf x) numbers
 
 -- expressions that are in order
 abbrev pub AreShaped : Table → List Ground → Type 0

@@ -2,8 +2,8 @@
 use Rattle.std.specs.Prelude.{◌≡◌, ℕ, ◌⊎◌, List, [], ◌∷◌, slice_index, Option, option_and_then}
 use Rattle.prim_ops.specs.declared.operation.PrimOp.{PrimOp}
 use Rattle.prim_ops.specs.declared.operation.PrimOp.TheVariants.{Tail, Bits}
-use Rattle.cycle_values.specs.Values.{operation}
-use Rattle.net_meaning.specs.Shapes.{Shape, shape_of_row}
+use Rattle.prim_ops.specs.Values.{operation}
+use Rattle.ground_net.specs.Shapes.{Shape, shape_of_row}
 use Rattle.code_emit.specs.Ways.{Given}
 
 -- The value of an operation on the value of an inner one.

@@ -6,8 +6,8 @@ use Rattle.bit_words.specs.declared.value.Value.{Value}
 use Rattle.bit_words.specs.Values.{integer_of, bits_of}
 use Rattle.prim_ops.specs.declared.operation.PrimOp.{PrimOp}
 use Rattle.prim_ops.specs.Results.{integer_result}
-use Rattle.cycle_values.specs.Values.{fitted, lone, operation}
-use Rattle.net_meaning.specs.Shapes.{Shape, shaped, shape_of_value, shape_of_row}
+use Rattle.prim_ops.specs.Values.{fitted, lone, operation}
+use Rattle.ground_net.specs.Shapes.{Shape, shaped, shape_of_value, shape_of_row}
 use Rattle.flat_code.specs.declared.instr.Op.{Op}
 use Rattle.flat_code.specs.declared.instr.Instr.{Instr}
 use Rattle.flat_code.specs.declared.instr.Location.{Location}

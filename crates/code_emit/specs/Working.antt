@@ -1,7 +1,7 @@
 -- Instructions that compute, and locations of one slot.
 use Rattle.std.specs.Prelude.{◌≡◌, ℕ}
 use Rattle.bit_words.specs.declared.value.Kind.{Kind}
-use Rattle.net_meaning.specs.Shapes.{shaped}
+use Rattle.ground_net.specs.Shapes.{shaped}
 use Rattle.flat_code.specs.declared.instr.Op.{Op}
 use Rattle.flat_code.specs.declared.instr.Instr.{Instr}
 use Rattle.flat_code.specs.declared.instr.Location.{Location}

@@ -2,7 +2,7 @@
 
 ghost use Rattle.std.specs.Prelude.{◌≡◌, ◌<◌, ◌≤◌, Some, IsSome, IfOk, All, length};
 ghost use Rattle.ground_net.specs.Grounds.{chosen};
-ghost use Rattle.net_meaning.specs.Shapes.{shape_of_choice};
+ghost use Rattle.ground_net.specs.Shapes.{shape_of_choice};
 ghost use Rattle.flat_code.specs.Meaning.{location_shape};
 ghost use Rattle.flat_code.specs.Fine.{location_shapes, location_slots, slots_of};
 ghost use Rattle.code_draft.specs.Drafts.{IsDraft, Stands, Makes};

@@ -3,10 +3,11 @@
 ghost use Rattle.std.specs.Prelude.{◌≡◌, Some, IsSome, IfOk, All, map};
 ghost use Rattle.flat_code.specs.Meaning.{location_shape};
 ghost use Rattle.flat_code.specs.Fine.{location_shapes, location_slots};
-ghost use Rattle.net_meaning.specs.Shapes.{shape, all_of};
+ghost use Rattle.ground_net.specs.Shapes.{shape, all_of};
 ghost use Rattle.code_draft.specs.Drafts.{IsDraft, Makes};
 ghost use Rattle.code_draft.specs.Segments.{Step};
-ghost use Rattle.code_emit.specs.Emits.{sources_table, source_shape, Emits, EmitsAll, AreShaped, shapes_in, Fits, IsOf, leaf_source, element_source};
+ghost use Rattle.ground_net.specs.declared.ground.Ground.TheVariants.{Leaf as Leaf_of};
+ghost use Rattle.code_emit.specs.Emits.{as_leaves, sources_table, source_shape, Emits, EmitsAll, AreShaped, shapes_in, Fits, IsOf, leaf_source, element_source};
 ghost use Rattle.code_emit.specs.Spans.{Spans, SpansAll, StandsThere, source_slots};
 ghost use Rattle.code_emit.specs.declared.sources.Source.TheVariants.{Frame as A_frame};
 ghost use Rattle.flat_code.specs.declared.instr.Location.{Location as TheLocation};
@@ -19,7 +20,7 @@ use crate::values::{emit_fit, emit_operation};
 use bit_words::List;
 use code_draft::{Draft, constant, input, load, wide_value};
 use flat_code::{Form, Location};
-use ground_net::Ground;
+use ground_net::{Ground, Numbers};
 use std::alloc::{AllocError, Global};
 
 /// Adds code for the value of an expression, and gives the location of the value.
@@ -64,6 +65,20 @@ pub fn emit(
             let locations = joined(front, back.as_slice())?;
             wide_value(draft, Form::Select, locations, measure.kind, measure.width)
         }
+        Ground::Indexed(numbers, indices, lengths) => {
+            let front = emit_all(alloc, draft, sources, indices.as_slice())?;
+            let back = emit_leaves(alloc, draft, sources, numbers)?;
+            let measure = items_measure(back.as_slice());
+            let locations = joined(front, back.as_slice())?;
+            let lengths = List::from_slice(alloc, lengths.as_slice())?;
+            wide_value(
+                draft,
+                Form::Pick(lengths),
+                locations,
+                measure.kind,
+                measure.width,
+            )
+        }
         Ground::Load(memory, leaf, items) => {
             let locations = emit_all(alloc, draft, sources, items.as_slice())?;
             let elements = elements_of(sources, *memory, *leaf);
@@ -100,6 +115,53 @@ fn emit_all(
         locations.push(emit(alloc, draft, sources, ground)?)?;
     }
     Ok(locations)
+}
+
+/// Adds code for the values of leaves, in order.
+fn emit_leaves(
+    alloc: Global,
+    draft: &mut Draft,
+    sources: &Sources,
+    numbers: &Numbers,
+) -> Result<List<Location>, AllocError>
+    requires { AreShaped (sources_table sources.now) (as_leaves numbers.now) }
+    ensures shapes { IfOk result (λ ss. all_of (shapes_in (sources_table sources.now) (as_leaves numbers.now)) ≡ Some (location_shapes ss)) }
+    ensures emits { IfOk result (λ ss. EmitsAll sources.now (as_leaves numbers.now) draft.old draft.new ss) }
+    ensures spans { IfOk result (λ ss. SpansAll sources.now (as_leaves numbers.now) draft.old draft.new ss) }
+{
+    let mut row = Vec::new(alloc);
+    numbers.push_to(&mut row)?;
+    let locations = fetch_all(alloc, draft, sources, row.as_slice())?;
+    Ok(locations)
+}
+
+/// The same, of leaves that are listed.
+fn fetch_all(
+    alloc: Global,
+    draft: &mut Draft,
+    sources: &Sources,
+    leaves: &[u32],
+) -> Result<List<Location>, AllocError>
+    requires { AreShaped (sources_table sources.now) (as_leaves leaves.now) }
+    ensures shapes { IfOk result (λ ss. all_of (shapes_in (sources_table sources.now) (as_leaves leaves.now)) ≡ Some (location_shapes ss)) }
+    ensures emits { IfOk result (λ ss. EmitsAll sources.now (as_leaves leaves.now) draft.old draft.new ss) }
+    ensures spans { IfOk result (λ ss. SpansAll sources.now (as_leaves leaves.now) draft.old draft.new ss) }
+{
+    let mut locations = List::new(alloc);
+    for leaf in leaves {
+        locations.push(emit_leaf(draft, sources, *leaf)?)?;
+    }
+    Ok(locations)
+}
+
+/// Adds code for the value of a leaf.
+fn emit_leaf(draft: &mut Draft, sources: &Sources, leaf: u32) -> Result<Location, AllocError>
+    requires { IsSome (shape (Leaf_of leaf) (sources_table sources.now)) }
+    ensures shape { IfOk result (λ s. shape (Leaf_of leaf) (sources_table sources.now) ≡ Some (location_shape s)) }
+    ensures emits { IfOk result (λ s. Emits sources.now (Leaf_of leaf) draft.old draft.new s) }
+    ensures spans { IfOk result (λ s. Spans sources.now (Leaf_of leaf) draft.old draft.new s) }
+{
+    fetch(draft, source_of(sources, leaf))
 }
 
 /// Adds code for the value of a source, where it isn't in the frame.

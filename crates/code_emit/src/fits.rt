@@ -4,7 +4,7 @@ ghost use Rattle.std.specs.Prelude.{◌≡◌, ◌<◌, ◌≤◌, ◌+◌, ◌-
 ghost use Rattle.bit_words.specs.declared.value.Kind.TheVariants.{Signed};
 ghost use Rattle.flat_code.specs.Meaning.{location_shape};
 ghost use Rattle.flat_code.specs.Fine.{location_slots, slots_of};
-ghost use Rattle.net_meaning.specs.Shapes.{shaped};
+ghost use Rattle.ground_net.specs.Shapes.{shaped};
 ghost use Rattle.code_draft.specs.Drafts.{IsDraft, Stands, Makes};
 ghost use Rattle.code_draft.specs.Segments.{Step};
 ghost use Rattle.code_emit.specs.Ways.{Given, IsMade, IsWay, Refits, fit_of_one};

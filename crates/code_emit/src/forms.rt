@@ -3,7 +3,7 @@
 ghost use Rattle.std.specs.Prelude.{◌≡◌, ◌≤◌, ◌++◌, [], ◌∷◌, Some, IsSome, IfOk, All, length};
 ghost use Rattle.flat_code.specs.Meaning.{location_shape};
 ghost use Rattle.flat_code.specs.Fine.{location_shapes};
-ghost use Rattle.net_meaning.specs.Shapes.{shaped, shape_of_row, shape_of_choice, shape_of_items};
+ghost use Rattle.ground_net.specs.Shapes.{shaped, shape_of_row, shape_of_choice, shape_of_items};
 ghost use Rattle.prim_ops.specs.declared.widths.Width.TheVariants.{Bits};
 ghost use Rattle.prim_ops.specs.Kinds.{row_kind};
 ghost use Rattle.prim_ops.specs.Widths.{row_width};

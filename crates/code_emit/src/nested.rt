@@ -3,7 +3,7 @@
 ghost use Rattle.std.specs.Prelude.{◌≡◌, ◌∷◌, [], ◌⊎◌, true, Some, None, IsSome, Ok, IfOk, IfSome, All, slice_index};
 ghost use Rattle.prim_ops.specs.declared.operation.PrimOp.TheVariants.{Tail, Bits as BitsOp};
 ghost use Rattle.ground_net.specs.declared.ground.Ground.TheVariants.{Op as Op_of};
-ghost use Rattle.net_meaning.specs.Shapes.{shaped, shape_of_row};
+ghost use Rattle.ground_net.specs.Shapes.{shaped, shape_of_row};
 ghost use Rattle.flat_code.specs.Meaning.{location_shape};
 ghost use Rattle.flat_code.specs.Fine.{location_shapes, location_slots, slots_of};
 ghost use Rattle.code_draft.specs.Drafts.{IsDraft, Stands, Makes};

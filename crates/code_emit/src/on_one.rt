@@ -4,9 +4,9 @@ ghost use Rattle.std.specs.Prelude.{◌≡◌, ℕ, ◌<◌, ◌≤◌, ◌-◌,
 ghost use Rattle.bit_words.specs.declared.value.Kind.{Kind as TheKind};
 ghost use Rattle.bit_words.specs.declared.value.Kind.TheVariants.{Unsigned, Signed};
 ghost use Rattle.prim_ops.specs.declared.operation.PrimOp.TheVariants.{Shl as ShlOf};
-ghost use Rattle.cycle_values.specs.Values.{operation};
+ghost use Rattle.prim_ops.specs.Values.{operation};
 ghost use Rattle.flat_code.specs.Meaning.{location_shape};
-ghost use Rattle.net_meaning.specs.Shapes.{shaped, shape_of_row};
+ghost use Rattle.ground_net.specs.Shapes.{shaped, shape_of_row};
 ghost use Rattle.code_emit.specs.Ways.{Given, IsWay, Shifts, GivesRow};
 
 use crate::fits::{fit_way, sign_of};

@@ -1,10 +1,10 @@
 //! Operations of the table.
 
 ghost use Rattle.std.specs.Prelude.{◌≡◌, ℕ, ◌≤◌, ◌+◌, List, Some, None, Ok, IfOk, OnOk, IfSome, All};
-ghost use Rattle.cycle_values.specs.Values.{operation};
+ghost use Rattle.prim_ops.specs.Values.{operation};
 ghost use Rattle.flat_code.specs.Meaning.{location_shape};
 ghost use Rattle.flat_code.specs.Fine.{location_shapes};
-ghost use Rattle.net_meaning.specs.Shapes.{shaped, shape_of_row};
+ghost use Rattle.ground_net.specs.Shapes.{shaped, shape_of_row};
 ghost use Rattle.code_draft.specs.Drafts.{IsDraft, Stands, Makes};
 ghost use Rattle.code_emit.specs.Ways.{IsMade, GivesRow, PairsRow, AreTwo, Reckons, row_value};
 

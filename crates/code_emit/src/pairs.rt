@@ -5,7 +5,7 @@ ghost use Rattle.flat_code.specs.declared.instr.Op.TheVariants.{Not};
 ghost use Rattle.flat_code.specs.declared.instr.Location.{Location as TheLocation};
 ghost use Rattle.flat_code.specs.Meaning.{location_shape};
 ghost use Rattle.flat_code.specs.Fine.{location_slots, slots_of};
-ghost use Rattle.net_meaning.specs.Shapes.{shaped};
+ghost use Rattle.ground_net.specs.Shapes.{shaped};
 ghost use Rattle.code_draft.specs.Drafts.{IsDraft, Stands, Makes};
 ghost use Rattle.code_draft.specs.Segments.{Segment};
 ghost use Rattle.code_emit.specs.Working.{working, from_slots};

@@ -3,7 +3,7 @@
 ghost use Rattle.std.specs.Prelude.{◌≡◌, ℕ, ◌≤◌, ◌+◌, ◌∷◌, [], true, Some, None, Ok, IfOk, OnOk, IfSome, All, List as TheList};
 ghost use Rattle.flat_code.specs.Meaning.{location_shape};
 ghost use Rattle.flat_code.specs.Fine.{location_slots, slots_of};
-ghost use Rattle.net_meaning.specs.Shapes.{shaped};
+ghost use Rattle.ground_net.specs.Shapes.{shaped};
 ghost use Rattle.code_draft.specs.Drafts.{IsDraft, Stands, Makes};
 ghost use Rattle.code_draft.specs.Segments.{Step};
 ghost use Rattle.code_emit.specs.Ways.{Given, IsMade, IsWay, IsLowest, KeepsLowest};

@@ -2,7 +2,7 @@
 
 ghost use Rattle.std.specs.Prelude.{◌≡◌, ◌≤◌, Some, IsSome, IfOk, All};
 ghost use Rattle.ground_net.specs.Grounds.{chosen};
-ghost use Rattle.net_meaning.specs.Shapes.{shaped, shape_of_row, shape_of_choice, shape_of_fit};
+ghost use Rattle.ground_net.specs.Shapes.{shaped, shape_of_row, shape_of_choice, shape_of_fit};
 ghost use Rattle.flat_code.specs.Meaning.{location_shape};
 ghost use Rattle.flat_code.specs.Fine.{location_shapes, location_slots, slots_of};
 ghost use Rattle.code_draft.specs.Drafts.{IsDraft, Stands, Makes};

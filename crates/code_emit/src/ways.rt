@@ -4,7 +4,7 @@ ghost use Rattle.std.specs.Prelude.{◌≡◌, ◌≤◌, ◌+◌, List as TheLi
 ghost use Rattle.flat_code.specs.declared.instr.Location.{Location as TheLocation};
 ghost use Rattle.flat_code.specs.Meaning.{location_shape};
 ghost use Rattle.flat_code.specs.Fine.{location_slots, slots_of};
-ghost use Rattle.net_meaning.specs.Shapes.{shaped};
+ghost use Rattle.ground_net.specs.Shapes.{shaped};
 ghost use Rattle.code_draft.specs.Drafts.{IsDraft, Stands, Makes};
 ghost use Rattle.code_draft.specs.Segments.{Step};
 ghost use Rattle.code_emit.specs.Working.{working, from_slot, at_one_slot};

@@ -3,19 +3,19 @@ use Rattle.std.proofs.Common.{◌≡◌, ◌==◌, ℕ, ◌+◌, Bool, true, fal
 use Rattle.std.proofs.lemmas.Bool.{cases_eq, cases_Bool}
 use Rattle.std.proofs.lemmas.Grind.{common_steps}
 use Rattle.phase_core.specs.declared.model.Publication.{Publication}
-use Rattle.cycle_values.specs.Values.{fitted}
+use Rattle.prim_ops.specs.Values.{fitted}
 use Rattle.ground_net.specs.declared.net.Net.{Net}
 use Rattle.ground_net.specs.declared.net.NetMemory.{NetMemory}
 use Rattle.ground_net.specs.declared.net.NetPort.{NetPort}
 use Rattle.ground_net.specs.declared.net.NetRead.{NetRead}
 use Rattle.ground_net.specs.Grounds.{Instant}
 use Rattle.ground_net.specs.Cones.{numbered}
-use Rattle.net_meaning.specs.Cycles.{NetState, Capture, captures, captured_by, next, next_of_capture}
-use Rattle.net_meaning.specs.Words.{captured_word}
+use Rattle.ground_net.specs.Cycles.{NetState, Capture, captures, captured_by, next, next_of_capture}
+use Rattle.ground_net.specs.Words.{captured_word}
 use Rattle.flat_code.specs.Meaning.{stored}
 use Rattle.code_emit.specs.declared.sources.Sources.{Sources}
 use Rattle.code_emit.specs.Emits.{leaf_source}
-use Rattle.sink_effects.specs.Effects.{capture_shape, capture_told, captures_told}
+use Rattle.partition_code.specs.Effects.{capture_shape, capture_told, captures_told}
 use Rattle.code_memories.specs.Memories.{HasMemory, word_of, capture_of, capture_left}
 use Rattle.code_memories.proofs.Numbered.{some_same, each_numbered, one_numbered, nothing_left, flat_twice, flat_mapped, to_flat_map, at_numbered, at_map}
 

@@ -6,12 +6,12 @@ use Rattle.ground_net.specs.declared.net.NetMemory.{NetMemory}
 use Rattle.ground_net.specs.declared.net.NetPort.{NetPort}
 use Rattle.ground_net.specs.declared.net.NetRead.{NetRead}
 use Rattle.ground_net.specs.declared.net.ElementLeaf.{ElementLeaf}
-use Rattle.code_registers.specs.declared.leaf.MemoryLeaf.{MemoryLeaf}
-use Rattle.code_registers.specs.Captures.{captured_ground}
+use Rattle.code_memories.specs.declared.leaf.MemoryLeaf.{MemoryLeaf}
+use Rattle.code_memories.specs.NextReads.{captured_ground}
 use Rattle.code_draft.specs.declared.draft.Draft.{Draft}
 use Rattle.code_emit.specs.declared.sources.Sources.{Sources}
-use Rattle.code_registers.specs.Groups.{EvaluatesOnly}
-use Rattle.code_registers.proofs.Evaluating.{more_such, such_too}
+use Rattle.code_memories.specs.SinkGroups.{EvaluatesOnly}
+use Rattle.code_memories.proofs.RegisterEvaluating.{more_such, such_too}
 use Rattle.code_memories.proofs.Numbered.{some_same}
 use Rattle.code_memories.specs.WriteGroups.{IsWriteGroup}
 use Rattle.code_memories.specs.Captures.{ReadsAt}

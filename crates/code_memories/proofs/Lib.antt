@@ -9,3 +9,8 @@ pub mod Published
 pub mod Loops
 pub mod Evaluating
 pub mod Numbers
+pub mod NextValues
+pub mod NextWords
+pub mod RegisterEvaluating
+pub mod Reading
+pub mod Shaping

@@ -4,7 +4,7 @@ use Rattle.std.proofs.lemmas.List.{take_all, take_more, append-nil}
 use Rattle.std.proofs.lemmas.Option.{slice_get-get_or}
 use Rattle.bit_words.specs.Values.{integer_of}
 use Rattle.phase_core.specs.declared.model.Publication.{Publication}
-use Rattle.cycle_values.specs.Ports.{Held, read_by_port}
+use Rattle.prim_ops.specs.Ports.{Held, read_by_port}
 use Rattle.ground_net.specs.declared.ground.Ground.{Ground}
 use Rattle.ground_net.specs.declared.net.Net.{Net}
 use Rattle.ground_net.specs.declared.net.NetMemory.{NetMemory}
@@ -13,19 +13,19 @@ use Rattle.ground_net.specs.declared.net.NetRead.{NetRead}
 use Rattle.ground_net.specs.declared.net.ElementLeaf.{ElementLeaf}
 use Rattle.ground_net.specs.Grounds.{Instant, value}
 use Rattle.ground_net.specs.Cones.{numbered, A_memory}
-use Rattle.net_meaning.specs.Shapes.{shaped, shape, Table, HasShapes}
-use Rattle.net_meaning.specs.Cycles.{NetState, Capture, captured_by, taken, next_of_memory, shown}
-use Rattle.net_meaning.specs.Nets.{IsNet, element_shape}
+use Rattle.ground_net.specs.Shapes.{shaped, shape, Table, HasShapes}
+use Rattle.ground_net.specs.Cycles.{NetState, Capture, captured_by, taken, next_of_memory, shown}
+use Rattle.ground_net.specs.Nets.{IsNet, element_shape}
 use Rattle.flat_code.specs.declared.instr.Location.{Location}
 use Rattle.flat_code.specs.Meaning.{location_shape}
 use Rattle.code_draft.specs.declared.draft.Draft.{Draft}
 use Rattle.code_emit.specs.declared.sources.Sources.{Sources}
 use Rattle.code_emit.specs.Emits.{sources_table, leaf_source, Emits}
-use Rattle.code_publish.specs.Publishing.{Publishes}
-use Rattle.sink_effects.specs.Effects.{sinks_told, memory_told, writes_told}
-use Rattle.code_registers.specs.Telling.{PublishesSinks}
-use Rattle.code_registers.specs.declared.leaf.MemoryLeaf.{MemoryLeaf}
-use Rattle.code_registers.specs.Captures.{HasCapture, ShowsHeld}
+use Rattle.code_draft.specs.Publishing.{Publishes}
+use Rattle.partition_code.specs.Effects.{sinks_told, memory_told, writes_told}
+use Rattle.code_memories.specs.Telling.{PublishesSinks}
+use Rattle.code_memories.specs.declared.leaf.MemoryLeaf.{MemoryLeaf}
+use Rattle.code_memories.specs.NextReads.{HasCapture, ShowsHeld}
 use Rattle.code_memories.specs.Memories.{HasMemory, word_of, capture_of, capture_left}
 use Rattle.code_memories.proofs.Numbered.{some_same, numbered_long, some_there}
 use Rattle.code_memories.proofs.Captured.{by_ports}

@@ -9,10 +9,10 @@ use Rattle.ground_net.specs.declared.net.NetMemory.{NetMemory}
 use Rattle.ground_net.specs.declared.net.NetPort.{NetPort}
 use Rattle.ground_net.specs.declared.net.NetRead.{NetRead}
 use Rattle.ground_net.specs.Cones.{numbered}
-use Rattle.net_meaning.specs.Shapes.{Shape}
-use Rattle.net_meaning.specs.Cycles.{Capture, captures, captured_by}
-use Rattle.net_meaning.specs.Nets.{register_shapes, captured_shapes, shape_or_none}
-use Rattle.net_meaning.specs.Words.{word_count, count_words, memory_words, state_words}
+use Rattle.ground_net.specs.Shapes.{Shape}
+use Rattle.ground_net.specs.Cycles.{Capture, captures, captured_by}
+use Rattle.ground_net.specs.Nets.{register_shapes, captured_shapes, shape_or_none}
+use Rattle.ground_net.specs.Words.{word_count, count_words, memory_words, state_words}
 use Rattle.code_memories.specs.Memories.{capture_of}
 use Rattle.code_memories.proofs.Numbered.{numbered_long, at_numbered}
 use Rattle.code_memories.proofs.Captured.{of_memory}

@@ -10,12 +10,12 @@ use Rattle.ground_net.specs.declared.net.NetWrite.{NetWrite}
 use Rattle.ground_net.specs.declared.net.NetRead.{NetRead}
 use Rattle.ground_net.specs.declared.net.ElementLeaf.{ElementLeaf}
 use Rattle.ground_net.specs.Cones.{A_memory, needs, needs_of_memory, port_needs, reads_need, or_no_leaf}
-use Rattle.net_meaning.specs.Shapes.{Shape, shaped}
-use Rattle.net_meaning.specs.Nets.{IsNet, IsPort, IsUnsigned, AreElements, table_of, leaf_shape, element_shape}
+use Rattle.ground_net.specs.Shapes.{Shape, shaped}
+use Rattle.ground_net.specs.Nets.{IsNet, IsPort, IsUnsigned, AreElements, table_of, leaf_shape, element_shape}
 use Rattle.code_emit.specs.declared.sources.Sources.{Sources}
 use Rattle.code_emit.specs.Emits.{sources_table, element_source, elements_shape}
-use Rattle.code_registers.specs.declared.leaf.MemoryLeaf.{MemoryLeaf}
-use Rattle.code_registers.specs.Captures.{IsUInt, HasReader, HasWriter, HasCapture}
+use Rattle.code_memories.specs.declared.leaf.MemoryLeaf.{MemoryLeaf}
+use Rattle.code_memories.specs.NextReads.{IsUInt, HasReader, HasWriter, HasCapture}
 use Rattle.code_memories.specs.Memories.{HasMemory, StandsInMemory}
 use Rattle.code_memories.proofs.Numbered.{some_same, none_some, in_head, in_tail, in_left, in_right, in_flat_map, in_place, some_there, below_there}
 

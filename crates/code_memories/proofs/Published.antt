@@ -4,9 +4,9 @@ use Rattle.std.proofs.lemmas.Grind.{common_steps}
 use Rattle.std.proofs.lemmas.List.{map-append}
 use Rattle.bit_words.specs.declared.value.Kind.TheVariants.{Unsigned}
 use Rattle.bit_words.specs.Values.{integer_of}
-use Rattle.cycle_values.specs.Values.{fitted}
-use Rattle.cycle_values.specs.Ports.{Held, read_by_port}
-use Rattle.cycle_values.proofs.Fittings.{refitted}
+use Rattle.prim_ops.specs.Values.{fitted}
+use Rattle.prim_ops.specs.Ports.{Held, read_by_port}
+use Rattle.prim_ops.proofs.Fittings.{refitted}
 use Rattle.ground_net.specs.declared.ground.Ground.{Ground}
 use Rattle.ground_net.specs.declared.net.Net.{Net}
 use Rattle.ground_net.specs.declared.net.Leaf.{Leaf}
@@ -16,9 +16,9 @@ use Rattle.ground_net.specs.declared.net.NetRead.{NetRead}
 use Rattle.ground_net.specs.declared.net.ElementLeaf.{ElementLeaf}
 use Rattle.ground_net.specs.Grounds.{Instant, value}
 use Rattle.ground_net.specs.Cones.{numbered}
-use Rattle.net_meaning.specs.Shapes.{Shape, shaped, shape, shape_of_value, Table, HasShapes}
-use Rattle.net_meaning.specs.Cycles.{NetState, first_state, Capture, captures, taken, next_of_memory, next_of_capture, shown}
-use Rattle.net_meaning.specs.Nets.{IsNet, leaf_shape, element_shape, shape_or_none}
+use Rattle.ground_net.specs.Shapes.{Shape, shaped, shape, shape_of_value, Table, HasShapes}
+use Rattle.ground_net.specs.Cycles.{NetState, first_state, Capture, captures, taken, next_of_memory, next_of_capture, shown}
+use Rattle.ground_net.specs.Nets.{IsNet, leaf_shape, element_shape, shape_or_none}
 use Rattle.flat_code.specs.declared.instr.Location.{Location}
 use Rattle.flat_code.specs.Meaning.{stored, location_shape}
 use Rattle.flat_code.specs.Fine.{further_words, location_slots, InRegion}
@@ -29,10 +29,10 @@ use Rattle.code_emit.specs.declared.sources.Source.TheVariants as source
 use Rattle.code_emit.specs.declared.sources.Sources.{Sources}
 use Rattle.code_emit.specs.Emits.{sources_table, leaf_source, kept_shape, Fits, AreSources, Emits}
 use Rattle.code_emit.proofs.Emitting.{sources_on, seen_shapes}
-use Rattle.code_publish.specs.Publishing.{Tells, Publishes}
-use Rattle.sink_effects.specs.Effects.{capture_shape}
-use Rattle.code_registers.specs.declared.leaf.MemoryLeaf.{MemoryLeaf}
-use Rattle.code_registers.specs.Captures.{HasCapture, ShowsHeld}
+use Rattle.code_draft.specs.Publishing.{Tells, Publishes}
+use Rattle.partition_code.specs.Effects.{capture_shape}
+use Rattle.code_memories.specs.declared.leaf.MemoryLeaf.{MemoryLeaf}
+use Rattle.code_memories.specs.NextReads.{HasCapture, ShowsHeld}
 use Rattle.code_memories.specs.Memories.{HasMemory, StandsCaptured, word_of, capture_of, capture_left}
 use Rattle.code_memories.proofs.Numbered.{some_same, none_some, numbered_more, some_there}
 use Rattle.code_memories.proofs.Ports.{has_capture}

@@ -7,9 +7,9 @@ use Rattle.ground_net.specs.declared.ground.Ground.TheVariants.{Leaf}
 use Rattle.ground_net.specs.declared.net.Net.{Net}
 use Rattle.ground_net.specs.Grounds.{Instant, value}
 use Rattle.ground_net.proofs.Layers.{value-Leaf}
-use Rattle.net_meaning.specs.Shapes.{shape}
-use Rattle.net_meaning.specs.Cycles.{NetState}
-use Rattle.net_meaning.proofs.Shaping.{shape-Leaf}
+use Rattle.ground_net.specs.Shapes.{shape}
+use Rattle.ground_net.specs.Cycles.{NetState}
+use Rattle.ground_net.proofs.Shaping.{shape-Leaf}
 use Rattle.flat_code.specs.declared.instr.Location.{Location}
 use Rattle.flat_code.specs.declared.instr.Port.{Port}
 use Rattle.flat_code.specs.declared.instr.Region.{Region}
@@ -25,9 +25,9 @@ use Rattle.code_emit.specs.declared.sources.Source.TheVariants as source
 use Rattle.code_emit.specs.declared.sources.Sources.{Sources}
 use Rattle.code_emit.specs.Emits.{sources_table, Sees, Fits, AreSources, Emits, EmitsAll}
 use Rattle.code_emit.proofs.Emitting.{sources_on}
-use Rattle.code_publish.specs.Writing.{HasPort, TellsBy, PublishesBy}
-use Rattle.code_registers.specs.Telling.{Left, ShowsState}
-use Rattle.code_registers.proofs.NextWords.{told_then, none_told}
+use Rattle.code_draft.specs.Writing.{HasPort, TellsBy, PublishesBy}
+use Rattle.code_memories.specs.Telling.{Left, ShowsState}
+use Rattle.code_memories.proofs.NextWords.{told_then, none_told}
 use Rattle.code_memories.specs.declared.places.Target.{Target}
 use Rattle.code_memories.specs.Writes.{PublishesLeft, TellsTarget}
 

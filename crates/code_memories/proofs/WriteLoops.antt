@@ -9,14 +9,14 @@ use Rattle.ground_net.specs.declared.net.NetPort.{NetPort}
 use Rattle.ground_net.specs.declared.net.NetWrite.{NetWrite}
 use Rattle.ground_net.specs.declared.net.ElementLeaf.{ElementLeaf}
 use Rattle.ground_net.specs.Cones.{numbered}
-use Rattle.net_meaning.specs.Cycles.{shown}
-use Rattle.net_meaning.specs.Nets.{IsNet, element_shape, element_shapes}
+use Rattle.ground_net.specs.Cycles.{shown}
+use Rattle.ground_net.specs.Nets.{IsNet, element_shape, element_shapes}
 use Rattle.code_draft.specs.declared.draft.Draft.{Draft}
 use Rattle.code_emit.specs.declared.sources.Sources.{Sources}
 use Rattle.ground_net.specs.declared.ground.Ground.TheVariants.{Leaf}
-use Rattle.net_meaning.specs.Shapes.{shape}
+use Rattle.ground_net.specs.Shapes.{shape}
 use Rattle.code_emit.specs.Emits.{element_source, sources_table}
-use Rattle.sink_effects.specs.Effects.{leaf_told, port_told, writes_told}
+use Rattle.partition_code.specs.Effects.{leaf_told, port_told, writes_told}
 use Rattle.code_memories.specs.Memories.{HasMemory}
 use Rattle.code_memories.proofs.Numbered.{some_same, numbered_long, some_there}
 use Rattle.code_memories.specs.declared.places.Target.{Target}

@@ -9,9 +9,9 @@ use Rattle.bit_words.specs.declared.value.Kind.TheVariants.{Unsigned}
 use Rattle.bit_words.specs.declared.value.Value.{Value}
 use Rattle.bit_words.specs.Values.{integer, integer_of}
 use Rattle.phase_core.specs.declared.model.Publication.{Publication}
-use Rattle.cycle_values.specs.Values.{fitted, is_one}
-use Rattle.cycle_values.specs.Ports.{set_to_write}
-use Rattle.cycle_values.proofs.Fittings.{refitted}
+use Rattle.prim_ops.specs.Values.{fitted, is_one}
+use Rattle.prim_ops.specs.Ports.{set_to_write}
+use Rattle.prim_ops.proofs.Fittings.{refitted}
 use Rattle.ground_net.specs.declared.net.Net.{Net}
 use Rattle.ground_net.specs.declared.net.NetMemory.{NetMemory}
 use Rattle.ground_net.specs.declared.net.NetPort.{NetPort}
@@ -20,11 +20,11 @@ use Rattle.ground_net.specs.declared.net.ElementLeaf.{ElementLeaf}
 use Rattle.ground_net.specs.declared.ground.Ground.TheVariants.{Leaf}
 use Rattle.ground_net.specs.Grounds.{Instant}
 use Rattle.ground_net.specs.Cones.{numbered, or_no_leaf}
-use Rattle.net_meaning.specs.Shapes.{Shape, shaped, shape, HasShapes}
-use Rattle.net_meaning.specs.Cycles.{NetState, is_set, is_set_at, integer_at, where_it_writes, written_leaf, mask_leaf, shown}
-use Rattle.net_meaning.specs.Nets.{IsNet, element_shape, element_shapes}
-use Rattle.net_meaning.specs.Words.{element_word, element_words, memory_word, count_words}
-use Rattle.net_meaning.proofs.Shaping.{shape-Leaf}
+use Rattle.ground_net.specs.Shapes.{Shape, shaped, shape, HasShapes}
+use Rattle.ground_net.specs.Cycles.{NetState, is_set, is_set_at, integer_at, where_it_writes, written_leaf, mask_leaf, shown}
+use Rattle.ground_net.specs.Nets.{IsNet, element_shape, element_shapes}
+use Rattle.ground_net.specs.Words.{element_word, element_words, memory_word, count_words}
+use Rattle.ground_net.proofs.Shaping.{shape-Leaf}
 use Rattle.flat_code.specs.Meaning.{stored, stored_where}
 use Rattle.flat_code.specs.Fine.{InRegion}
 use Rattle.code_draft.specs.declared.draft.Draft.{Draft}
@@ -32,9 +32,9 @@ use Rattle.code_emit.specs.declared.sources.Elements.{Elements}
 use Rattle.code_emit.specs.declared.sources.Sources.{Sources}
 use Rattle.code_emit.specs.Emits.{sources_table, element_source, elements_shape}
 use Rattle.code_emit.proofs.Emitting.{seen_shapes}
-use Rattle.code_sequence.specs.FromNets.{HasElements}
-use Rattle.sink_effects.specs.Effects.{leaf_told, port_told}
-use Rattle.code_registers.specs.Captures.{HasWriter}
+use Rattle.partition_code.specs.FromNets.{HasElements}
+use Rattle.partition_code.specs.Effects.{leaf_told, port_told}
+use Rattle.code_memories.specs.NextReads.{HasWriter}
 use Rattle.code_memories.specs.Memories.{HasMemory, StandsInMemory}
 use Rattle.code_memories.proofs.Numbered.{some_same, numbered_more, nothing_left, some_there, at_map}
 use Rattle.code_memories.proofs.Ports.{has_writer}

@@ -6,8 +6,8 @@ use Rattle.ground_net.specs.declared.net.NetMemory.{NetMemory}
 use Rattle.ground_net.specs.declared.net.NetPort.{NetPort}
 use Rattle.ground_net.specs.declared.net.NetRead.{NetRead}
 use Rattle.ground_net.specs.declared.net.ElementLeaf.{ElementLeaf}
-use Rattle.code_registers.specs.declared.leaf.MemoryLeaf.{MemoryLeaf}
-use Rattle.code_registers.specs.Captures.{captured_ground}
+use Rattle.code_memories.specs.declared.leaf.MemoryLeaf.{MemoryLeaf}
+use Rattle.code_memories.specs.NextReads.{captured_ground}
 use Rattle.code_memories.specs.WriteGroups.{IsWriteGroup}
 
 -- What a captured read of a leaf of the elements of the memory of this number shows next, alone.

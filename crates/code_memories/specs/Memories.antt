@@ -1,7 +1,7 @@
 -- What the sources must have for the code of a memory.
 use Rattle.std.specs.Prelude.{◌≡◌, ◌==◌, ℕ, List, [], slice_get, Option, Some, None, Contains, if◌then◌else◌}
 use Rattle.phase_core.specs.declared.model.Publication.{Publication}
-use Rattle.cycle_values.specs.Values.{fitted}
+use Rattle.prim_ops.specs.Values.{fitted}
 use Rattle.ground_net.specs.declared.net.Net.{Net}
 use Rattle.ground_net.specs.declared.net.NetMemory.{NetMemory}
 use Rattle.ground_net.specs.declared.net.NetPort.{NetPort}
@@ -9,9 +9,9 @@ use Rattle.ground_net.specs.declared.net.NetRead.{NetRead}
 use Rattle.ground_net.specs.declared.net.ElementLeaf.{ElementLeaf}
 use Rattle.ground_net.specs.Grounds.{Instant}
 use Rattle.ground_net.specs.Cones.{A_memory, needs}
-use Rattle.net_meaning.specs.Cycles.{NetState, Capture, captures, next_of_capture}
-use Rattle.net_meaning.specs.Nets.{table_of}
-use Rattle.net_meaning.specs.Words.{captured_word}
+use Rattle.ground_net.specs.Cycles.{NetState, Capture, captures, next_of_capture}
+use Rattle.ground_net.specs.Nets.{table_of}
+use Rattle.ground_net.specs.Words.{captured_word}
 use Rattle.flat_code.specs.Meaning.{stored}
 use Rattle.code_emit.specs.declared.sources.Source.{Source}
 use Rattle.code_emit.specs.declared.sources.Source.TheVariants as source
@@ -19,8 +19,8 @@ use Rattle.code_emit.specs.declared.sources.Kept.{Kept}
 use Rattle.code_emit.specs.declared.sources.Elements.{Elements}
 use Rattle.code_emit.specs.declared.sources.Sources.{Sources}
 use Rattle.code_emit.specs.Emits.{sources_table, leaf_source, element_source, kept_shape}
-use Rattle.code_sequence.specs.FromNets.{HasElements}
-use Rattle.sink_effects.specs.Effects.{capture_shape}
+use Rattle.partition_code.specs.FromNets.{HasElements}
+use Rattle.partition_code.specs.Effects.{capture_shape}
 
 -- a captured read stands in its own words
 pub record StandsCaptured (net : Net) (S : Sources) (n : ℕ) (c : Capture) : Type 0 where

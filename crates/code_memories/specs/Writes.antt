@@ -6,14 +6,14 @@ use Rattle.ground_net.specs.declared.net.NetPort.{NetPort}
 use Rattle.ground_net.specs.declared.net.NetWrite.{NetWrite}
 use Rattle.ground_net.specs.declared.net.ElementLeaf.{ElementLeaf}
 use Rattle.ground_net.specs.Cones.{or_no_leaf}
-use Rattle.net_meaning.specs.Shapes.{Shape}
+use Rattle.ground_net.specs.Shapes.{Shape}
 use Rattle.flat_code.specs.Meaning.{stored_where}
 use Rattle.flat_code.specs.Fine.{InRegion}
 use Rattle.code_draft.specs.declared.draft.Draft.{Draft}
 use Rattle.code_draft.specs.Drafts.{IsDraft}
 use Rattle.code_emit.specs.declared.sources.Sources.{Sources}
 use Rattle.code_emit.specs.Emits.{sources_table, AreSources}
-use Rattle.code_registers.specs.Telling.{Left, TellsLeft}
+use Rattle.code_memories.specs.Telling.{Left, TellsLeft}
 use Rattle.code_memories.specs.declared.places.Target.{Target}
 
 abbrev pub PublishesLeft : Net → Sources → Left → Draft → Draft → Type 0

@@ -4,21 +4,21 @@ ghost use Rattle.std.specs.Prelude.{◌≡◌, ◌<◌, ◌^◌, ℕ, Some, OnOk
 ghost use Rattle.ground_net.specs.declared.net.NetMemory.{NetMemory as TheMemory};
 ghost use Rattle.ground_net.specs.declared.net.NetPort.{NetPort as ThePort};
 ghost use Rattle.ground_net.specs.declared.net.NetRead.{NetRead as TheRead};
-ghost use Rattle.net_meaning.specs.Nets.{IsNet};
-ghost use Rattle.net_meaning.specs.Cycles.{captured_by};
-ghost use Rattle.net_meaning.specs.Words.{state_words};
+ghost use Rattle.ground_net.specs.Nets.{IsNet};
+ghost use Rattle.ground_net.specs.Cycles.{captured_by};
+ghost use Rattle.ground_net.specs.Words.{state_words};
 ghost use Rattle.code_emit.specs.Emits.{leaf_source};
 ghost use Rattle.code_memories.specs.Memories.{HasMemory, word_of as word_in, capture_of, capture_left};
 ghost use Rattle.code_memories.specs.Writes.{IsPortAt, PublishesLeft};
-ghost use Rattle.code_registers.specs.Groups.{EvaluatesOnly};
+ghost use Rattle.code_memories.specs.SinkGroups.{EvaluatesOnly};
 ghost use Rattle.code_memories.specs.Captures.{ReadsAt, IsKept};
 ghost use Rattle.code_memories.specs.Groups.{IsCaptureGroup};
 
+use crate::leaf::MemoryLeaf;
+use crate::next_reads::captured_ground;
 use crate::places::{MemoryAt, PortAt, PortLeaf, memory_of, port_of};
-use code_draft::Draft;
+use code_draft::{Draft, publish};
 use code_emit::{Source, Sources, emit};
-use code_publish::publish;
-use code_registers::{MemoryLeaf, captured_ground};
 use std::alloc::{AllocError, Global};
 
 /// Adds code that publishes what the captured reads of a memory show next, port by port and leaf by leaf.

@@ -3,7 +3,7 @@
 ghost use Rattle.std.specs.Prelude.{◌≡◌, [], ◌∷◌, Some, IsSome, IfOk, OnOk, All, map};
 ghost use Rattle.ground_net.specs.declared.ground.Ground.TheVariants.{Leaf as A_leaf};
 ghost use Rattle.ground_net.specs.declared.net.Net.{Net as TheNet};
-ghost use Rattle.net_meaning.specs.Shapes.{shape};
+ghost use Rattle.ground_net.specs.Shapes.{shape};
 ghost use Rattle.flat_code.specs.Meaning.{location_shape};
 ghost use Rattle.code_emit.specs.Emits.{sources_table, Emits, EmitsAll};
 ghost use Rattle.code_emit.specs.Spans.{Spans, SpansAll, EvaluatesAll};
@@ -11,9 +11,8 @@ ghost use Rattle.code_memories.specs.Writes.{TellsTarget};
 
 use crate::places::Target;
 use bit_words::List;
-use code_draft::Draft;
+use code_draft::{Draft, publish_by};
 use code_emit::{Sources, emit};
-use code_publish::publish_by;
 use flat_code::{Location, Port};
 use ground_net::Ground;
 use std::alloc::{AllocError, Global};

@@ -2,11 +2,11 @@
 
 ghost use Rattle.std.specs.Prelude.{◌≡◌, ◌<◌, ◌^◌, [], ◌∷◌, OnOk};
 ghost use Rattle.ground_net.specs.Cones.{A_memory};
-ghost use Rattle.net_meaning.specs.Nets.{IsNet};
-ghost use Rattle.net_meaning.specs.Words.{state_words};
+ghost use Rattle.ground_net.specs.Nets.{IsNet};
+ghost use Rattle.ground_net.specs.Words.{state_words};
 ghost use Rattle.code_memories.specs.Memories.{HasMemory};
-ghost use Rattle.code_registers.specs.Telling.{PublishesSinks};
-ghost use Rattle.code_registers.specs.Groups.{EvaluatesOnly};
+ghost use Rattle.code_memories.specs.Telling.{PublishesSinks};
+ghost use Rattle.code_memories.specs.SinkGroups.{EvaluatesOnly};
 ghost use Rattle.code_memories.specs.Groups.{IsMemoryGroup};
 
 use crate::captures::publish_captures;

@@ -6,12 +6,12 @@ ghost use Rattle.ground_net.specs.declared.net.NetPort.{NetPort as ThePort};
 ghost use Rattle.ground_net.specs.declared.net.NetWrite.{NetWrite as TheWrite};
 ghost use Rattle.ground_net.specs.declared.net.ElementLeaf.{ElementLeaf as TheLeaf};
 ghost use Rattle.ground_net.specs.Grounds.{Instant};
-ghost use Rattle.net_meaning.specs.Cycles.{NetState, captured_by};
-ghost use Rattle.net_meaning.specs.Nets.{IsNet, element_shape};
+ghost use Rattle.ground_net.specs.Cycles.{NetState, captured_by};
+ghost use Rattle.ground_net.specs.Nets.{IsNet, element_shape};
 ghost use Rattle.code_emit.specs.declared.sources.Sources.{Sources as TheSources};
 ghost use Rattle.code_emit.specs.Emits.{sources_table};
-ghost use Rattle.code_registers.specs.Captures.{HasWriter};
-ghost use Rattle.sink_effects.specs.Effects.{captures_told};
+ghost use Rattle.code_memories.specs.NextReads.{HasWriter};
+ghost use Rattle.partition_code.specs.Effects.{captures_told};
 ghost use Rattle.code_memories.specs.Memories.{HasMemory, capture_left};
 
 /// A port that writes has its leaves; and what the captured reads of a memory leave is what they leave port by port.

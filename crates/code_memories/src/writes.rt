@@ -4,12 +4,12 @@ ghost use Rattle.std.specs.Prelude.{◌≡◌, Some, IsSome, IfSome, IfOk, OnOk,
 ghost use Rattle.ground_net.specs.declared.net.NetMemory.{NetMemory as TheMemory};
 ghost use Rattle.ground_net.specs.declared.net.NetPort.{NetPort as ThePort};
 ghost use Rattle.ground_net.specs.declared.net.ElementLeaf.{ElementLeaf as TheLeaf};
-ghost use Rattle.net_meaning.specs.Nets.{IsNet, element_shape};
-ghost use Rattle.net_meaning.specs.Cycles.{shown};
+ghost use Rattle.ground_net.specs.Nets.{IsNet, element_shape};
+ghost use Rattle.ground_net.specs.Cycles.{shown};
 ghost use Rattle.code_emit.specs.Emits.{element_source};
-ghost use Rattle.sink_effects.specs.Effects.{leaf_told, port_told, writes_told};
+ghost use Rattle.partition_code.specs.Effects.{leaf_told, port_told, writes_told};
 ghost use Rattle.code_memories.specs.Memories.{HasMemory};
-ghost use Rattle.code_registers.specs.Groups.{EvaluatesOnly};
+ghost use Rattle.code_memories.specs.SinkGroups.{EvaluatesOnly};
 ghost use Rattle.code_memories.specs.Writes.{IsPortAt, WritesAt, PublishesLeft, conditions_of as conditions_in};
 ghost use Rattle.code_memories.specs.WriteGroups.{IsWriteGroup};
 

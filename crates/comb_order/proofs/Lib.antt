@@ -4,6 +4,9 @@ pub mod Reaches
 pub mod Orders
 pub mod Examples
 pub mod Keeping
+pub mod Members
+pub mod Telling
+pub mod Making
 pub mod Graphs
 pub mod Leaves
 pub mod Verdicts

@@ -3,10 +3,10 @@ use Rattle.std.proofs.Common.{◌≡◌, slice_get, Some, refl, sym, ap, ◌∙�
 use Rattle.std.specs.Prelude.{Err}
 use Rattle.std.proofs.lemmas.Bool.{cases_eq, cases_lt}
 use Rattle.place_text.specs.declared.place.Place.{Place}
-use Rattle.fault_order.specs.Order.{Precedes, by_rank}
-use Rattle.fault_order.specs.First.{IsFirst, HasNone}
-use Rattle.fault_order.specs.Verdicts.{IsVerdict}
-use Rattle.fault_order.proofs.Verdicts.{refuses_by, wants_memory}
+use Rattle.place_text.specs.Order.{Precedes, by_rank}
+use Rattle.place_text.specs.First.{IsFirst, HasNone}
+use Rattle.place_text.specs.Verdicts.{IsVerdict}
+use Rattle.place_text.proofs.Verdicts.{refuses_by, wants_memory}
 use Rattle.ground_net.specs.declared.net.Net.{Net}
 use Rattle.ground_net.specs.declared.net.Leaf.{Leaf}
 use Rattle.ground_net.specs.Reads.{IsFirstLoop, HasNoLoop}

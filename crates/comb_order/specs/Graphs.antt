@@ -1,17 +1,14 @@
--- The graph of a net, as lists of numbers.
-use Rattle.std.specs.Prelude.{◌≡◌, ◌≢◌, ℕ, ◌<◌, List, length, slice_get, slice_index, Some}
+-- Graphs, as rows of numbers, and what is kept of an order.
+use Rattle.std.specs.Prelude.{◌≡◌, ◌≢◌, ℕ, ◌<◌, List, length, map, slice_get, slice_index, Some}
 use Rattle.comb_order.specs.Graph.{Graph}
 use Rattle.std.specs.declared.alloc.Global.{Global}
 use Rattle.std.specs.declared.vec.Vec.{Vec}
 use Rattle.place_text.specs.declared.place.Place.{Place}
-use Rattle.ground_net.specs.declared.net.Net.{Net}
 use Rattle.ground_net.specs.declared.net.Leaf.{Leaf}
-use Rattle.ground_net.specs.Reads.{direct_reads}
 
--- a vertex for each leaf, which reads what the leaf reads directly
-pub record IsGraph (net : Net) (g : Graph) : Type 0 where
-  pub count : length g ≡ length net.leaves
-  pub rows : (x : ℕ) (row : Vec ℕ Global) → slice_get g x ≡ Some row → row.items ≡ direct_reads net x
+-- the rows of a graph
+abbrev pub rows_of : Graph → List (List ℕ)
+rows_of = map (λ (row : Vec ℕ Global). row.items)
 
 abbrev pub IsOnce : List ℕ → Type 0
 IsOnce s = (j k : ℕ) → j < k → k < length s → slice_index s j ≢ slice_index s k

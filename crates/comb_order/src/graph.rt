@@ -1,18 +1,37 @@
-//! The graph of a net: what each leaf reads, as lists of numbers.
+//! The graph of a net: what each leaf reads, and what each vertex behind them stands for, as lists of numbers.
 
-ghost use Rattle.std.specs.Prelude.{IfOk};
-ghost use Rattle.comb_order.specs.Graphs.{IsGraph};
+ghost use Rattle.std.specs.Prelude.{◌≡◌, ◌<◌, ◌^◌, length, map, IfOk};
+ghost use Rattle.comb_order.specs.Spreads.{IsSpread};
+ghost use Rattle.comb_order.specs.Graphs.{rows_of};
 
-use ground_net::{Net, reads_of};
+use crate::spread::{Spread, spread_of};
+use bit_words::List;
+use ground_net::Net;
 use std::alloc::{AllocError, Global};
 
-/// For each leaf of a net the leaves that it reads directly.
+/// There are fewer leaves and stretches than this.
+const NUMBERS: usize = 4_294_967_296;
+
+/// The reads of a net. More leaves and stretches than a `u32` numbers are a want of memory.
 pub fn graph_of(alloc: Global, net: &Net) -> Result<Vec<Vec<u32>>, AllocError>
-    ensures { IfOk result (λ rows. IsGraph net.now rows.items) }
+    ensures spread { IfOk result (λ graph. IsSpread net.now (rows_of graph.items)) }
+    ensures few { IfOk result (λ graph. length graph.items < 2 ^ 32) }
 {
-    let mut rows = Vec::new(alloc);
-    for number in 0..net.leaves.len() {
-        rows.push(reads_of(alloc, net, number)?)?;
+    let Spread { rows, known: _ } = spread_of(alloc, net)?;
+    let graph = vectors_of(alloc, rows)?;
+    if graph.len() >= NUMBERS {
+        return Err(AllocError);
     }
-    Ok(rows)
+    Ok(graph)
+}
+
+/// The same rows.
+fn vectors_of(alloc: Global, rows: Vec<List<u32>>) -> Result<Vec<Vec<u32>>, AllocError>
+    ensures { IfOk result (λ vectors. rows_of vectors.items ≡ rows.items) }
+{
+    let mut vectors = Vec::new(alloc);
+    for row in rows {
+        vectors.push(row.into_vec())?;
+    }
+    Ok(vectors)
 }

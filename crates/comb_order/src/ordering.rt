@@ -1,17 +1,18 @@
 //! The order.
 
-ghost use Rattle.std.specs.Prelude.{◌≡◌, ℕ, ◌<◌, length, All, IfOk, OnOk, Err, MatchBool};
+ghost use Rattle.std.specs.Prelude.{◌≡◌, ℕ, ◌<◌, length, IfOk, OnOk, Err, MatchBool};
 ghost use Rattle.place_text.specs.declared.place.Place.{Place as APlace};
 ghost use Rattle.ground_net.specs.Reads.{MentionsLeaves, IsAssigned, IsOrder, HasNoLoop, IsFirstLoop};
-ghost use Rattle.fault_order.specs.Verdicts.{IsVerdict};
+ghost use Rattle.place_text.specs.Verdicts.{IsVerdict};
 ghost use Rattle.comb_order.specs.Faults.{IsFault, IsOrdered, place_of, rank_of};
 ghost use Rattle.comb_order.specs.Graphs.{Keeps, HasPlace};
 
 use crate::fault::OrderFault;
 use crate::graph::graph_of;
 use crate::graph_fault::GraphFault;
+use crate::spread::is_assignment;
 use bit_words::List;
-use ground_net::{Leaf, Net, Ordered, Role};
+use ground_net::{Leaf, Net, Ordered};
 use place_text::Place;
 use std::alloc::{AllocError, Global};
 
@@ -49,9 +50,8 @@ fn sequence_of(alloc: Global, net: &Net) -> Result<List<u32>, OrderFault>
     }
 }
 
-/// The assignments among these leaves, in the same order.
+/// The assignments among these numbers, in the same order.
 fn assignments_of(alloc: Global, leaves: &[Leaf], numbers: &[u32]) -> Result<List<u32>, AllocError>
-    requires { All (λ x. x < length leaves.now) numbers.now }
     ensures { IfOk result (λ kept. Keeps (IsAssigned leaves.now) numbers.now kept) }
 {
     let mut kept = List::new(alloc);
@@ -65,11 +65,9 @@ fn assignments_of(alloc: Global, leaves: &[Leaf], numbers: &[u32]) -> Result<Lis
 
 /// Whether the leaf of a number is an assignment.
 fn is_assigned(leaves: &[Leaf], number: u32) -> bool
-    requires { number < length leaves.now }
     ensures { MatchBool result (IsAssigned leaves.now number) (IsAssigned leaves.now number → ⊥) }
 {
-    let leaf = &leaves[number as usize];
-    matches!(leaf.role, Role::Assigned)
+    is_assignment(leaves, number)
 }
 
 /// The place of the leaf of a number.

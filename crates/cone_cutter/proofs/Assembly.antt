@@ -23,49 +23,14 @@ use Rattle.cone_cutter.specs.Rows.{is_assigned_role, is_assigned_leaf, is_assign
 use Rattle.cone_cutter.specs.Walks.{AreRanked}
 use Rattle.cone_cutter.specs.Loads.{holds, IsLoad, part_by, parts_by}
 use Rattle.cone_cutter.specs.Marks.{IsRowOrder, AreInOrder, AreSizes, IsHeld}
+pub use Rattle.comb_order.proofs.Telling.{assigned_is, is_assigned_test, assigned_within}
 use Rattle.cone_cutter.proofs.Lists.{none_in, first_in, later_in, cons_cases, stands, stood, filter_from, filter_to, pairs_filter, counts_same, in_range}
 use Rattle.cone_cutter.proofs.KeyPlaces.{place_from, place_to}
 
 -- assignments
 
-role_assigned : (r : Role) → is_assigned_role r ≡ true → r ≡ role.Assigned
-role_assigned (role.Input n) e = cc
-role_assigned role.Clock e = cc
-role_assigned role.Assigned e = refl
-role_assigned (role.Register n) e = cc
-role_assigned (role.Captured n) e = cc
-
-pub assigned_is : (leaves : List Leaf) (x : ℕ) → is_assignment leaves x ≡ true → IsAssigned leaves x
-assigned_is leaves x e = one (slice_get leaves x) refl e
-  where
-    one : (o : Option Leaf) → slice_get leaves x ≡ o → is_assigned_leaf o ≡ true → IsAssigned leaves x
-    one (Some leaf) there e = record { leaf = leaf; there = there; is = role_assigned leaf.role e }
-    one None there e = cc
-
-pub is_assigned_test : (leaves : List Leaf) (x : ℕ) → IsAssigned leaves x → is_assignment leaves x ≡ true
-is_assigned_test leaves x a = ap is_assigned_leaf a.there ∙ ap is_assigned_role a.is
-
-pub assigned_within : (leaves : List Leaf) (x : ℕ) → IsAssigned leaves x → x < length leaves
-assigned_within leaves x a = slice_get_within leaves x a.leaf a.there
-
-below : (net : Net) (xs : List ℕ) → All (λ x. x < length net.leaves) (assignments_of net xs)
-below net xs k d lt =
-    let f = filter_from (is_assignment net.leaves) xs _ (Contains-get_or (assignments_of net xs) k d lt) in
-    assigned_within net.leaves _ (assigned_is net.leaves _ f.1)
-
 pub read_rows_long : (net : Net) → length (read_rows net) ≡ length net.leaves
 read_rows_long net = length-map-range_with_len (λ x. assignments_of net (direct_reads net x)) 0 (length net.leaves)
-
-pub reads_below : (net : Net) (reads : List (List ℕ)) → reads ≡ read_rows net → AreBelow (length reads) reads
-reads_below net reads e =
-    subst (λ r. AreBelow (length r) r) (sym e) (subst (λ n. AreBelow n (read_rows net)) (sym (read_rows_long net))
-    (All-map (λ row. All (λ x. x < length net.leaves) row) (λ x. assignments_of net (direct_reads net x)) (range_with_len 0 (length net.leaves)) (λ k d lt. below net (direct_reads net (get_or (range_with_len 0 (length net.leaves)) k d)))))
-
-pub needs_below : (net : Net) (reads rows : List (List ℕ)) (all : List Sink) → reads ≡ read_rows net → rows ≡ need_rows net all → AreBelow (length reads) rows
-needs_below net reads rows all e n =
-    let long : length reads ≡ length net.leaves = ap length e ∙ read_rows_long net in
-    subst (λ m. AreBelow m rows) (sym long) (subst (λ r. AreBelow (length net.leaves) r) (sym n)
-    (All-map (λ row. All (λ x. x < length net.leaves) row) (λ sink. assignments_of net (needs net sink)) all (λ k d lt. below net (needs net (get_or all k d)))))
 
 -- cones
 

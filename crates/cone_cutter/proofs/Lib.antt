@@ -5,7 +5,10 @@ pub mod SinkOrder
 pub mod Ranks
 pub mod LoadSteps
 pub mod TallySteps
+pub mod NeedRows
 pub mod Marks
+pub mod Wide
+pub mod VertexOrder
 pub mod OneWorker
 pub mod Assembly
 pub mod Splitting

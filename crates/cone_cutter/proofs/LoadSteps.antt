@@ -10,9 +10,8 @@ use Rattle.std.proofs.lemmas.Nat.Bits.{bit_at-zero}
 use Rattle.std.proofs.Math.ListN.{length-append}
 use Rattle.cone_cutter.specs.declared.placing.Placing.{Placing}
 use Rattle.cone_cutter.specs.declared.loads.Load.{Load}
-use Rattle.cone_cutter.specs.Cuts.{Counts, NeededBy, IsLeast, placed, placed_in}
-use Rattle.cone_cutter.specs.Rows.{row_at, ConeAt}
-use Rattle.cone_cutter.specs.Walks.{Walked}
+use Rattle.cone_cutter.specs.Cuts.{Lists, Counts, NeededBy, IsLeast, placed, placed_in}
+use Rattle.cone_cutter.specs.Rows.{row_at, Met, ConeAt}
 use Rattle.cone_cutter.specs.Loads.{has_bit, holds, shared_by, cost_with, IsCheapest, Gets, Takes, HasRoom, IsLoad}
 use Rattle.cone_cutter.proofs.Lists.{set_here, set_there, none_in, first_in, later_in, cons_cases, filter_from, filter_to, pairs_append, pairs_filter, split, counts_same, counts_none}
 use Rattle.cone_cutter.proofs.KeyPlaces.{eqb_not}
@@ -123,12 +122,9 @@ not_true : (b : Bool) → b ≡ true → not b ≡ true → ⊥
 not_true true e n = cc
 not_true false e n = cc
 
-module _ (reads needed : List (List ℕ)) (workers : ℕ) (placings : List Placing) (old new : Load) (sink part stamp : ℕ) (stamps marks found : List ℕ)
-    (h : IsLoad reads needed workers placings old) (w : Walked reads (row_at needed sink) stamp stamps marks found) (long : length stamps ≡ length reads) (t : Takes found old new part)
+module _ (reads needed : List (List ℕ)) (workers : ℕ) (placings : List Placing) (old new : Load) (sink part : ℕ) (found : List ℕ)
+    (h : IsLoad reads needed workers placings old) (listed : Lists (Met reads (row_at needed sink)) found) (inside : (x : ℕ) → Contains found x → x < length reads) (t : Takes found old new part)
     (few : length found ≤ 2 ^ 32) where
-  inside : (x : ℕ) → Contains found x → x < length reads
-  inside x c = omega (arith, w.within x c, long)
-
   held : (p x : ℕ) → p < workers → x < length reads → holds old.masks.items p x ≡ true → NeededBy (ConeAt reads needed) (placed_in p placings) x
   held p x lt in_reads e = (h.held p x lt in_reads).0 e
 
@@ -146,15 +142,15 @@ module _ (reads needed : List (List ℕ)) (workers : ℕ) (placings : List Placi
         numbers = was.numbers ++ rest;
         listed = record {
           only = λ x c. ⊎_elim (λ o. needed_more (ConeAt reads needed) (placed_in p placings) (sink ∷ placed_in p placings) (later_in sink (placed_in p placings)) x (was.listed.only x o))
-              (λ n. record { sink = sink; there = first_in sink (placed_in p placings) sink refl; inside = w.listed.only x (from_rest x n).0 })
+              (λ n. record { sink = sink; there = first_in sink (placed_in p placings) sink refl; inside = listed.only x (from_rest x n).0 })
               (Contains-append_cases was.numbers rest x c);
           all = λ x n. ⊎_elim
-              (λ e. let c = w.listed.all x (subst (λ k. ConeAt reads needed k x) (sym e) n.inside) in
+              (λ e. let c = listed.all x (subst (λ k. ConeAt reads needed k x) (sym e) n.inside) in
               ⊎_elim (λ yes. Contains-append_left was.numbers rest x (was.listed.all x (held p x lt (inside x c) yes)))
               (λ no. Contains-append_right was.numbers rest x (filter_to test found x c (ap not no))) (cases_bool (holds old.masks.items p x)))
               (λ o. Contains-append_left was.numbers rest x (was.listed.all x (record { sink = n.sink; there = o; inside = n.inside })))
               (cons_cases sink (placed_in p placings) n.sink n.there);
-          once = pairs_append (λ a b. a ≢ b) was.numbers rest was.listed.once (pairs_filter (λ a b. a ≢ b) test found w.listed.once)
+          once = pairs_append (λ a b. a ≢ b) was.numbers rest was.listed.once (pairs_filter (λ a b. a ≢ b) test found listed.once)
               (λ x y c d e. let f = from_rest y d in
               not_true _ (holding p y lt (inside y f.0) (was.listed.only y (subst (Contains was.numbers) e c))) f.1);
         };
@@ -173,7 +169,7 @@ module _ (reads needed : List (List ℕ)) (workers : ℕ) (placings : List Placi
   held_now : (p x : ℕ) → p < workers → x < length reads → holds new.masks.items p x ≡ true → NeededBy (ConeAt reads needed) (placed_in p (placings ++ (record { sink = sink; part = part }) ∷ [])) x
   held_now p x lt in_reads e = ⊎_elim
       (λ q. subst (λ s. NeededBy (ConeAt reads needed) s x) (sym (here_now p q))
-      (⊎_elim (λ c. record { sink = sink; there = Contains-push (placed_in p placings) sink; inside = w.listed.only x c })
+      (⊎_elim (λ c. record { sink = sink; there = Contains-push (placed_in p placings) sink; inside = listed.only x c })
       (λ o. needed_more (ConeAt reads needed) (placed_in p placings) (placed_in p placings ++ sink ∷ []) (Contains-append_left (placed_in p placings) (sink ∷ [])) x
       (held p x lt in_reads (ap (λ z. holds old.masks.items z x) q ∙ o)))
       (t.masks.only x (ap (λ z. holds new.masks.items z x) (sym q) ∙ e))))
@@ -185,7 +181,7 @@ module _ (reads needed : List (List ℕ)) (workers : ℕ) (placings : List Placi
       (λ q. let m = subst (λ s. NeededBy (ConeAt reads needed) s x) (here_now p q) n in
       ap (λ z. holds new.masks.items z x) q
       ∙ ⊎_elim (λ o. t.masks.kept x (ap (λ z. holds old.masks.items z x) (sym q) ∙ holding p x lt in_reads (record { sink = m.sink; there = o; inside = m.inside })))
-      (λ e. t.masks.got x (w.listed.all x (subst (λ k. ConeAt reads needed k x) (sym e) m.inside)))
+      (λ e. t.masks.got x (listed.all x (subst (λ k. ConeAt reads needed k x) (sym e) m.inside)))
       (Contains-push_cases (placed_in p placings) sink m.sink m.there))
       (λ d. t.masks.others p x d ∙ holding p x lt in_reads (subst (λ s. NeededBy (ConeAt reads needed) s x) (elsewhere_now p d) n))
       (cases_eq p part)

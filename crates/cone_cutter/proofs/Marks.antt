@@ -1,5 +1,5 @@
 -- Marks of cones, and the sizes that are counted by them.
-use Rattle.std.proofs.Common.{◌≡◌, ◌≢◌, ℕ, zero, suc, ◌+◌, ◌-◌, ◌<◌, ◌≤◌, ◌==◌, ◌||◌, max, min, Bool, true, false, List, [], ◌∷◌, ◌++◌, length, take, slice_index, slice_set, refl, sym, subst, ap, ◌∙◌, arith, ◌⊎◌, ⊎_elim, inl, inr, get_or}
+use Rattle.std.proofs.Common.{◌≡◌, ◌≢◌, ℕ, zero, suc, ◌+◌, ◌-◌, ◌<◌, ◌≤◌, ◌==◌, ◌||◌, ◌↔◌, IsTrue, max, min, Bool, true, false, List, [], ◌∷◌, ◌++◌, length, take, slice_index, slice_set, refl, sym, subst, ap, ◌∙◌, arith, ◌⊎◌, ⊎_elim, inl, inr, get_or}
 use Rattle.std.specs.List.{filter, Contains, All, range_with_len}
 use Rattle.std.specs.Int.{bit_at}
 use Rattle.std.specs.Int.Bits.{bit_or}
@@ -149,19 +149,17 @@ StandFor needed first count marks = (s : ℕ) → StandsOn marks s (λ x. (s < c
 pub order_few : (reads : List (List ℕ)) (sequence : List ℕ) → IsRowOrder reads sequence → length sequence ≤ length reads
 order_few reads sequence o = fits_below (length reads) sequence o.once o.within
 
-pub marks_count : (reads : List (List ℕ)) (sequence roots marks : List ℕ) (s : ℕ) → IsRowOrder reads sequence → ((x : ℕ) → Contains roots x → Contains sequence x) → length marks ≡ length reads → StandsOn marks s (Met reads roots)
-    → Counts (Met reads roots) (shared_by marks sequence s)
-marks_count reads sequence roots marks s o f long m =
-    let within = λ (x : ℕ) (c : Contains sequence x). let lt : x < length marks = omega (arith, o.within x c, long) in lt in
-    record {
-      numbers = filter (holds marks s) sequence;
-      listed = record {
-        only = λ x c. let k = filter_from (holds marks s) sequence x c in (m x (within x k.0)).0 k.1;
-        all = λ x i. let c = met_in_order reads sequence roots o f x i in filter_to (holds marks s) sequence x c ((m x (within x c)).1 i);
-        once = pairs_filter (λ a b. a ≢ b) (holds marks s) sequence o.once;
-      };
-      count = length-filter (holds marks s) sequence;
-    }
+pub marks_count : (reads : List (List ℕ)) (sequence roots marks : List ℕ) (s : ℕ) → IsRowOrder reads sequence → ((x : ℕ) → Contains roots x → Contains sequence x)
+    → ((x : ℕ) → Contains sequence x → IsTrue (holds marks s x) ↔ Met reads roots x) → Counts (Met reads roots) (shared_by marks sequence s)
+marks_count reads sequence roots marks s o f m = record {
+  numbers = filter (holds marks s) sequence;
+  listed = record {
+    only = λ x c. let k = filter_from (holds marks s) sequence x c in (m x k.0).0 k.1;
+    all = λ x i. let c = met_in_order reads sequence roots o f x i in filter_to (holds marks s) sequence x c ((m x c).1 i);
+    once = pairs_filter (λ a b. a ≢ b) (holds marks s) sequence o.once;
+  };
+  count = length-filter (holds marks s) sequence;
+}
 
 -- the union
 
@@ -202,7 +200,7 @@ sizes_none reads needed sizes e = record {
 }
 
 module _ (reads needed : List (List ℕ)) (sequence marks old counts : List ℕ) (most : ℕ) (o : IsRowOrder reads sequence) (f : AreInOrder needed sequence) (h : AreSizes reads needed old)
-    (long : length marks ≡ length reads) (marked : (s : ℕ) → s < 64 → StandsOn marks s (ConeAt reads needed (length old + s)))
+    (marked : (s : ℕ) → s < 64 → (x : ℕ) → Contains sequence x → IsTrue (holds marks s x) ↔ ConeAt reads needed (length old + s) x)
     (all : length counts ≡ 64) (counted : (s : ℕ) → s < length counts → slice_index counts s ≡ shared_by marks sequence s) where
   added_at : (k : ℕ) → k < length (old ++ take most counts) → length old ≤ k → (k - length old < 64) × (slice_index (old ++ take most counts) k ≡ shared_by marks sequence (k - length old))
   added_at k lt past =
@@ -219,7 +217,7 @@ module _ (reads needed : List (List ℕ)) (sequence marks old counts : List ℕ)
         let q : length old + (k - length old) ≡ k = omega arith in
         subst (Counts (ConeAt reads needed k)) (sym a.1)
         (subst (λ j. Counts (ConeAt reads needed j) (shared_by marks sequence (k - length old))) q
-        (marks_count reads sequence (row_at needed (length old + (k - length old))) marks (k - length old) o (f (length old + (k - length old))) long (marked (k - length old) a.0))))
+        (marks_count reads sequence (row_at needed (length old + (k - length old))) marks (k - length old) o (f (length old + (k - length old))) (marked (k - length old) a.0))))
         (cases_lt k (length old));
     few = λ k lt. ⊎_elim
         (λ less. omega (arith, get_or_append_left old (take most counts) 0 k less, h.few k less))

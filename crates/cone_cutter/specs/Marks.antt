@@ -1,7 +1,9 @@
 -- Rows in an order, and marks of cones: a word of marks stands for each leaf, and each mark for a sink.
-use Rattle.std.specs.Prelude.{◌≡◌, ◌⊎◌, ◌↔◌, ℕ, ◌<◌, ◌≤◌, true, IsTrue, List, length, slice_get, slice_index, Some, Contains}
+use Rattle.std.specs.Prelude.{◌≡◌, ◌⊎◌, ◌↔◌, ℕ, ◌<◌, ◌≤◌, true, false, IsTrue, List, length, get_or, slice_get, slice_index, Some, Contains}
 use Rattle.cone_cutter.specs.declared.placing.Placing.{Placing}
 use Rattle.cone_cutter.specs.declared.holding.Holding.{Holding}
+use Rattle.cone_cutter.specs.declared.arranging.Arranged.{Arranged}
+use Rattle.cone_cutter.specs.declared.rows.NetRows.{NetRows}
 use Rattle.cone_cutter.specs.Cuts.{NeededBy, ArePlaced, placed_in, Counts}
 use Rattle.cone_cutter.specs.Rows.{row_at, Met, ConeAt}
 use Rattle.cone_cutter.specs.Walks.{IsOnce}
@@ -53,3 +55,28 @@ pub record IsHeld (reads needed : List (List ℕ)) (workers : ℕ) (it : Holding
   pub leaves : length it.masks.items ≡ length reads
   pub owners : (i : ℕ) (next : Placing) → slice_get placings i ≡ Some next → slice_index it.owners.items next.sink ≡ next.part
   pub held : (p x : ℕ) → p < workers → x < length reads → IsTrue (holds it.masks.items p x) ↔ NeededBy (ConeAt reads needed) (placed_in p placings) x
+
+-- Numbers in an order; of the vertices it is known which stand there.
+pub record IsArranged (rows : NetRows) (it : Arranged) : Type 0 where
+  pub long : length it.placed.items ≡ length rows.reads.items
+  pub order : IsRowOrder rows.reads.items it.all.items
+  pub placed : (r : ℕ) → get_or it.placed.items r false ≡ true → Contains it.all.items r
+  pub unplaced : (r : ℕ) → rows.leaves ≤ r → Contains it.all.items r → get_or it.placed.items r false ≡ true
+
+-- What the vertices in a row stand for stands there.
+abbrev pub AreReady : NetRows → List ℕ → Arranged → Type 0
+AreReady rows row it = (r y : ℕ) → Contains row r → rows.leaves ≤ r → Contains (row_at rows.reads.items r) y → Contains it.all.items y
+
+-- The vertices in a row are placed, and no leaf is.
+pub record PlacesVertices (rows : NetRows) (row : List ℕ) (old new : Arranged) : Type 0 where
+  pub arranged : IsArranged rows new
+  pub stays : (x : ℕ) → Contains old.all.items x → Contains new.all.items x
+  pub leaves : (x : ℕ) → x < rows.leaves → Contains new.all.items x → Contains old.all.items x
+  pub there : (r : ℕ) → Contains row r → rows.leaves ≤ r → Contains new.all.items r
+
+-- A leaf is placed, and no other one is.
+pub record PlacesLeaf (rows : NetRows) (leaf : ℕ) (old new : Arranged) : Type 0 where
+  pub arranged : IsArranged rows new
+  pub stays : (x : ℕ) → Contains old.all.items x → Contains new.all.items x
+  pub leaves : (x : ℕ) → x < rows.leaves → Contains new.all.items x → Contains old.all.items x ⊎ (leaf ≡ x)
+  pub there : Contains new.all.items leaf

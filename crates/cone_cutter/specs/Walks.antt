@@ -1,7 +1,8 @@
 -- Walks of cones. A stamp stands for each leaf: the number of the walk in which it was met last.
 use Rattle.std.specs.Prelude.{◌≡◌, ◌≢◌, ◌⊎◌, ℕ, ◌+◌, ◌<◌, ◌≤◌, ◌==◌, not, List, ◌++◌, length, slice_index, count_by, Contains}
 use Rattle.cone_cutter.specs.Cuts.{Lists, GoesFirst}
-use Rattle.cone_cutter.specs.Rows.{row_at, Met}
+use Rattle.cone_cutter.specs.declared.rows.NetRows.{NetRows}
+use Rattle.cone_cutter.specs.Rows.{row_at, told, reads_in, Met}
 
 -- each once
 abbrev pub IsOnce : List ℕ → Type 0
@@ -43,6 +44,14 @@ pub record Walked (reads : List (List ℕ)) (roots : List ℕ) (stamp : ℕ) (ol
   pub within : (v : ℕ) → Contains found v → v < length old
   pub here : (v : ℕ) → Contains found v → slice_index new v ≡ stamp
   pub others : (v : ℕ) → (slice_index new v ≡ slice_index old v) ⊎ Contains found v
+
+-- What was found is the cone of these roots: the assignments that are met. No number has a later stamp.
+pub record FindsCone (rows : NetRows) (roots : List ℕ) (stamp : ℕ) (old new found : List ℕ) : Type 0 where
+  pub listed : Lists (Met (reads_in rows) (told rows.leaves rows.reads.items roots)) found
+  pub within : (v : ℕ) → Contains found v → v < rows.leaves
+  pub few : length found ≤ rows.leaves
+  pub long : length new ≡ length old
+  pub early : (v : ℕ) → slice_index new v ≤ stamp
 
 -- The sinks whose cones have at least this size, in the order in which they are placed.
 pub record AreRanked (sizes : List ℕ) (size : ℕ) (order : List ℕ) : Type 0 where

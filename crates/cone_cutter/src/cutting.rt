@@ -33,7 +33,7 @@ pub fn cut(alloc: Global, ordered: &Ordered, watch: &[u32], workers: u32) -> Res
     ensures { IfOk result (IsCut ordered.now watch.now workers) }
 {
     let rows = NetRows::new(alloc, &ordered.net, watch)?;
-    let union = union_of(alloc, rows.reads.as_slice(), rows.needed.as_slice())?;
+    let union = union_of(alloc, &rows)?;
     let sequence = ordered.sequence.as_slice();
     let holding = Holding::new(alloc, &rows, union.as_slice(), sequence, workers)?;
     let parts = parts_of(

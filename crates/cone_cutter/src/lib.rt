@@ -3,6 +3,7 @@
 //! rule, and that each has exactly the union of its sinks' cones.
 #![tactic(auto)]
 
+mod arranging;
 mod buckets;
 mod cutting;
 mod holding;
@@ -11,7 +12,6 @@ mod loads;
 mod marking;
 mod needing;
 mod placing;
-mod reading;
 mod rows;
 mod sinks;
 mod sizing;
@@ -20,8 +20,7 @@ mod walking;
 
 pub use cutting::{cut, parts_of};
 pub use loads::{count_shared, give, without_bit};
-pub use needing::needs_of;
 pub use placing::Placing;
-pub use reading::rows_of;
+pub use rows::NetRows;
 pub use sinks::{SinkAt, sinks_of};
-pub use walking::{no_stamps, walk};
+pub use walking::{no_stamps, walk_cone};

@@ -2,12 +2,12 @@
 
 ghost use Rattle.std.specs.Prelude.{◌≡◌, ◌≢◌, ℕ, ◌<◌, ◌≤◌, ◌^◌, length, slice_get, slice_index, All, IfOk};
 ghost use Rattle.cone_cutter.specs.Cuts.{placed};
-ghost use Rattle.cone_cutter.specs.Rows.{AreBelow};
+ghost use Rattle.cone_cutter.specs.Rows.{AreNetRows, reads_in, needs_in};
 ghost use Rattle.cone_cutter.specs.Loads.{IsLoad};
 
 use crate::loads::Load;
-use crate::walking::{no_stamps, walk};
-use bit_words::List;
+use crate::rows::NetRows;
+use crate::walking::{no_stamps, walk_cone};
 use std::alloc::{AllocError, Global};
 
 /// A sink with the partition in which it was placed, both by their numbers.
@@ -27,30 +27,29 @@ pub struct Placed {
 /// Places sinks, one after the other, each in the partition that then holds the fewest leaves, the first one on a tie.
 pub fn place_all(
     alloc: Global,
-    reads: &[List<u32>],
-    needed: &[List<u32>],
+    rows: &NetRows,
     order: &[usize],
     workers: u32,
 ) -> Result<Placed, AllocError>
-    requires few { length reads.now < 2 ^ 32 }
-    requires few_sinks { length needed.now < 2 ^ 32 }
+    requires rows { AreNetRows rows.now }
+    requires few { rows.now.leaves < 2 ^ 32 }
+    requires few_sinks { length rows.now.needed.items < 2 ^ 32 }
     requires short { length order.now < 2 ^ 32 }
-    requires below { AreBelow (length reads.now) reads.now }
-    requires needs_below { AreBelow (length reads.now) needed.now }
-    requires sinks { All (λ k. k < length needed.now) order.now }
+    requires sinks { All (λ k. k < length rows.now.needed.items) order.now }
     requires some { 0 < workers }
     requires most { workers ≤ 64 }
-    ensures load { IfOk result (λ it. IsLoad reads.now needed.now workers it.placings.items it.load) }
+    ensures load { IfOk result (λ it. IsLoad (reads_in rows.now) (needs_in rows.now) workers it.placings.items it.load) }
     ensures order { IfOk result (λ it. placed it.placings.items ≡ order.now) }
 {
-    let mut stamp_table = no_stamps(alloc, reads.len())?;
+    let needed = rows.needed.as_slice();
+    let mut stamp_table = no_stamps(alloc, rows.reads.len())?;
     let stamps = stamp_table.as_mut_slice();
     let mut found = Vec::new(alloc);
-    let mut load = Load::new(alloc, reads.len(), workers as usize)?;
+    let mut load = Load::new(alloc, rows.leaves, workers as usize)?;
     let mut placings = Vec::new(alloc);
     for (turn, sink) in order.iter().enumerate() {
         let stamp = turn as u32 + 1;
-        walk(reads, needed[*sink].as_slice(), stamps, stamp, &mut found)?;
+        walk_cone(rows, needed[*sink].as_slice(), stamps, stamp, &mut found)?;
         let part = load.take(found.as_slice());
         placings.push(Placing {
             sink: *sink as u32,

@@ -1,6 +1,6 @@
 //! The top call over shelves and sinks in memory that take one byte a call.
 
-use crew_workers::{Gate, OpenGate};
+use crew_workers::Gate;
 use shelf_io::{ShelfMemory, SinkMemory};
 use sim_top::run_program;
 use std::alloc::{AllocError, Global};
@@ -131,22 +131,6 @@ pub fn answer<R: Threads + Wait + Sync, G: Gate + Sync>(
     )?;
     let status = run_program(rt, alloc, &all, &mut shelf, &mut sink, gate);
     Ok((status, Vec::from_slice(alloc, sink.bytes())?))
-}
-
-#[test]
-fn a_log_ends_with_its_stop_or_its_last_cycle(rt: HostRuntime) -> Result<(), Fail> {
-    for workers in ["1", "2", "5"] {
-        let words = ["log", "--workers", workers];
-        let outside = holding(PRINTING, LONG_STIMULUS);
-        let (status, written) = answer(&rt, rt.alloc(), &OpenGate, &words, outside)?;
-        assert_eq!(rt; status, 0);
-        assert_eq!(rt; written.as_slice(), LOG.as_bytes());
-        let outside = holding(CIRCUIT, STIMULUS);
-        let (status, written) = answer(&rt, rt.alloc(), &OpenGate, &words, outside)?;
-        assert_eq!(rt; status, 0);
-        assert_eq!(rt; written.as_slice(), b"ended 4\n".as_slice());
-    }
-    Ok(())
 }
 
 #[test]

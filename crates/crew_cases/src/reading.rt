@@ -1,7 +1,7 @@
 //! A circuit's text and a stimulus's text are read, and run by workers.
 
 ghost use Rattle.std.specs.Prelude.{◌<◌, length, All, IfSome};
-ghost use Rattle.net_meaning.specs.Words.{SaysItsWords};
+ghost use Rattle.ground_net.specs.Words.{SaysItsWords};
 ghost use Rattle.circuit_run.specs.NetRuns.{IsPlanned};
 
 use bit_words::List;

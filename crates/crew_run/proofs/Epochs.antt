@@ -8,10 +8,10 @@ use Rattle.register_table.specs.declared.table.Closed.{Closed}
 use Rattle.register_table.specs.Shown.{closed_script}
 use Rattle.ground_net.specs.declared.net.Net.{Net}
 use Rattle.ground_net.specs.declared.net.CutPart.{CutPart}
-use Rattle.net_meaning.specs.Cycles.{NetState, Inputs}
-use Rattle.net_meaning.specs.Words.{state_words}
+use Rattle.ground_net.specs.Cycles.{NetState, Inputs}
+use Rattle.ground_net.specs.Words.{state_words}
 use Rattle.flat_code.specs.declared.code.Code.{Code}
-use Rattle.sink_effects.proofs.Parts.{word_below}
+use Rattle.partition_code.proofs.Parts.{word_below}
 use Rattle.partition_code.specs.Codes.{AreOfOneCut, owner_in}
 use Rattle.partition_code.proofs.Owners.{owner_of_sink}
 use Rattle.partition_code.proofs.Placed.{words_counted}

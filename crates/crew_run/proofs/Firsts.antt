@@ -6,11 +6,11 @@ use Rattle.std.proofs.lemmas.List.{ext_get_or, get_or-replicate, length-replicat
 use Rattle.std.proofs.lemmas.Option.{slice_get-get_or}
 use Rattle.ground_net.specs.declared.net.Net.{Net}
 use Rattle.ground_net.specs.Cones.{numbered}
-use Rattle.net_meaning.specs.Shapes.{Shape}
-use Rattle.net_meaning.specs.Cycles.{first_state}
-use Rattle.net_meaning.specs.Nets.{register_shapes, element_shapes, captured_shapes}
-use Rattle.net_meaning.specs.Words.{kept, kept_all, words_of_memory, words_of, state_words}
-use Rattle.sink_effects.proofs.Lists.{Each, each_none, each_cons, each_append, each_flat}
+use Rattle.ground_net.specs.Shapes.{Shape}
+use Rattle.ground_net.specs.Cycles.{first_state}
+use Rattle.ground_net.specs.Nets.{register_shapes, element_shapes, captured_shapes}
+use Rattle.ground_net.specs.Words.{kept, kept_all, words_of_memory, words_of, state_words}
+use Rattle.partition_code.proofs.Lists.{Each, each_none, each_cons, each_append, each_flat}
 use Rattle.flat_code.specs.declared.code.Code.{Code}
 use Rattle.ground_net.specs.declared.net.CutPart.{CutPart}
 use Rattle.partition_code.specs.Codes.{AreCodesOf}

@@ -2,14 +2,14 @@
 use Rattle.std.proofs.Common.{◌≡◌, ℕ, ◌+◌, ◌<◌, ◌≤◌, [], length, refl, sym, subst, ◌∙◌}
 use Rattle.std.proofs.lemmas.List.FromFn.{length-map-range_with_len, get_or-map-range_with_len}
 use Rattle.std.proofs.lemmas.Option.{get_or_from_slice_get, slice_get_within}
-use Rattle.cycle_values.proofs.Fittings.{fitted_same}
+use Rattle.prim_ops.proofs.Fittings.{fitted_same}
 use Rattle.ground_net.specs.declared.net.Net.{Net}
 use Rattle.ground_net.specs.declared.net.Ports.{Ports}
 use Rattle.ground_net.specs.Watching.{inputs}
-use Rattle.net_meaning.specs.Cycles.{fitted_to}
-use Rattle.net_meaning.specs.Nets.{IsNet}
-use Rattle.net_meaning.proofs.Shaping.{fitted_shape}
-use Rattle.code_sequence.specs.FromNets.{MatchInputs}
+use Rattle.ground_net.specs.Cycles.{fitted_to}
+use Rattle.ground_net.specs.Nets.{IsNet}
+use Rattle.ground_net.proofs.Shaping.{fitted_shape}
+use Rattle.partition_code.specs.FromNets.{MatchInputs}
 use Rattle.crew_workers.specs.Codes.{row_at}
 use Rattle.stimulus.specs.declared.stimulus.Stimulus.{Stimulus}
 use Rattle.stimulus.specs.Stimuli.{IsFormed}

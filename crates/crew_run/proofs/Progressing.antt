@@ -5,8 +5,8 @@ use Rattle.std.proofs.lemmas.List.{length-append}
 use Rattle.bit_words.specs.declared.value.Value.{Value}
 use Rattle.ground_net.specs.declared.net.Net.{Net}
 use Rattle.ground_net.specs.Reads.{IsOrder}
-use Rattle.net_meaning.specs.Cycles.{NetState, Inputs}
-use Rattle.net_meaning.specs.Nets.{IsNet}
+use Rattle.ground_net.specs.Cycles.{NetState, Inputs}
+use Rattle.ground_net.specs.Nets.{IsNet}
 use Rattle.net_laws.specs.Runs.{Run}
 use Rattle.net_laws.specs.Runs as runs
 use Rattle.row_texts.specs.declared.telling.Spot.{Spot}

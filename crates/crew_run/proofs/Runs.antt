@@ -3,7 +3,7 @@ use Rattle.std.proofs.Common.{ℕ, ◌*◌, ◌^◌, ◌<◌, List, length, sym,
 use Rattle.bit_words.specs.declared.value.Value.{Value}
 use Rattle.ground_net.specs.declared.net.Ordered.{Ordered}
 use Rattle.ground_net.specs.declared.net.CutPart.{CutPart}
-use Rattle.net_meaning.specs.Cycles.{NetState, Inputs}
+use Rattle.ground_net.specs.Cycles.{NetState, Inputs}
 use Rattle.partition_code.specs.Codes.{AreWords, AreOfOneCut}
 use Rattle.partition_code.proofs.Placed.{words_counted, words_plain}
 use Rattle.crew_workers.specs.Scripts.{Runs}

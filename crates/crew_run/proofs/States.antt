@@ -7,9 +7,9 @@ use Rattle.bit_words.specs.declared.value.Value.{Value}
 use Rattle.phase_core.specs.declared.model.Script.{Script}
 use Rattle.phase_core.specs.Script.{published_all, values}
 use Rattle.ground_net.specs.declared.net.Net.{Net}
-use Rattle.net_meaning.specs.Cycles.{NetState, Inputs, Valuation, Settled, instant_of, next}
-use Rattle.net_meaning.proofs.Mentioning.{one_of_net}
-use Rattle.net_meaning.proofs.Ranges.{settled_has, next_within}
+use Rattle.ground_net.specs.Cycles.{NetState, Inputs, Valuation, Settled, instant_of, next}
+use Rattle.ground_net.proofs.Mentioning.{one_of_net}
+use Rattle.ground_net.proofs.Ranges.{settled_has, next_within}
 use Rattle.flat_code.specs.declared.code.Code.{Code}
 use Rattle.flat_code.specs.Codes.{outputs_by}
 use Rattle.partition_code.specs.Codes.{AreOfOneCut}

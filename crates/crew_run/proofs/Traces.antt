@@ -11,7 +11,7 @@ use Rattle.ground_net.specs.declared.net.Ports.{Ports}
 use Rattle.ground_net.specs.declared.net.PortLeaf.{PortLeaf}
 use Rattle.ground_net.specs.declared.net.Ordered.{Ordered}
 use Rattle.ground_net.specs.Watching.{is_shown, port_leaf, told_where, watched}
-use Rattle.net_meaning.specs.Cycles.{first_state}
+use Rattle.ground_net.specs.Cycles.{first_state}
 use Rattle.net_laws.specs.Runs.{Run}
 use Rattle.net_laws.specs.Serves.{Serves}
 use Rattle.stimulus.specs.declared.stimulus.Stimulus.{Stimulus}

@@ -10,7 +10,7 @@ use Rattle.fir_meaning.specs.States as tree
 use Rattle.ground_net.specs.declared.net.Net.{Net}
 use Rattle.ground_net.specs.declared.net.Ports.{Ports}
 use Rattle.ground_net.specs.declared.net.Ordered.{Ordered}
-use Rattle.net_meaning.specs.Cycles.{first_state}
+use Rattle.ground_net.specs.Cycles.{first_state}
 use Rattle.net_of_circuit.specs.FlatOrder.{Standing, all_leaves, flat_of}
 use Rattle.net_of_circuit.specs.NetOf.{flat_text}
 use Rattle.net_laws.specs.Serves.{Serves}

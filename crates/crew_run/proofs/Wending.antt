@@ -8,7 +8,7 @@ use Rattle.shelf_io.proofs.Written.{Appends-trans}
 use Rattle.std.specs.Prelude.{Option, None}
 use Rattle.ground_net.specs.declared.net.Ordered.{Ordered}
 use Rattle.ground_net.specs.declared.net.CutPart.{CutPart}
-use Rattle.net_meaning.specs.Cycles.{NetState, Inputs}
+use Rattle.ground_net.specs.Cycles.{NetState, Inputs}
 use Rattle.register_table.specs.declared.table.Closed.{Closed}
 use Rattle.register_table.specs.Shown.{closed_script}
 use Rattle.row_texts.specs.declared.telling.Spot.{Spot}

@@ -9,8 +9,8 @@ use Rattle.ground_net.specs.declared.net.Net.{Net}
 use Rattle.ground_net.specs.declared.net.Ordered.{Ordered}
 use Rattle.ground_net.specs.declared.net.Cut.{Cut}
 use Rattle.ground_net.specs.declared.net.CutPart.{CutPart}
-use Rattle.net_meaning.specs.Cycles.{NetState, Inputs, Valuation, Settled, instant_of, next, first_state}
-use Rattle.net_meaning.specs.Words.{words_of}
+use Rattle.ground_net.specs.Cycles.{NetState, Inputs, Valuation, Settled, instant_of, next, first_state}
+use Rattle.ground_net.specs.Words.{words_of}
 use Rattle.cone_cutter.specs.Cuts.{IsCut}
 use Rattle.partition_code.specs.Codes.{HasWordAmong, sinks_of_part}
 use Rattle.stimulus.specs.declared.stimulus.Stimulus.{Stimulus}

@@ -5,7 +5,7 @@ use Rattle.bit_words.specs.declared.value.Value.{Value}
 use Rattle.ground_net.specs.declared.net.Net.{Net}
 use Rattle.ground_net.specs.declared.net.Ordered.{Ordered}
 use Rattle.ground_net.specs.declared.net.CutPart.{CutPart}
-use Rattle.net_meaning.specs.Cycles.{NetState, Inputs, Valuation, Settled}
+use Rattle.ground_net.specs.Cycles.{NetState, Inputs, Valuation, Settled}
 use Rattle.register_table.specs.declared.table.Closed.{Closed}
 use Rattle.register_table.specs.Shown.{closed_script}
 use Rattle.circuit_run.specs.NetRuns.{inputs_from}

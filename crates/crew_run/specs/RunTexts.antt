@@ -2,7 +2,7 @@
 use Rattle.std.specs.Prelude.{◌≡◌, ℕ, List}
 use Rattle.bit_words.specs.declared.value.Value.{Value}
 use Rattle.ground_net.specs.declared.net.Net.{Net}
-use Rattle.net_meaning.specs.Cycles.{NetState, Inputs}
+use Rattle.ground_net.specs.Cycles.{NetState, Inputs}
 use Rattle.net_laws.specs.Runs.{Run}
 use Rattle.row_texts.specs.Tellings.{Telling, run_text}
 

@@ -5,10 +5,10 @@ use Rattle.ground_net.specs.declared.net.Net.{Net}
 use Rattle.ground_net.specs.declared.net.Ordered.{Ordered}
 use Rattle.ground_net.specs.declared.net.CutPart.{CutPart}
 use Rattle.ground_net.specs.Reads.{IsOrder}
-use Rattle.net_meaning.specs.Cycles.{NetState, Inputs}
-use Rattle.net_meaning.specs.Nets.{IsNet, IsWithin}
-use Rattle.net_meaning.specs.Words.{words_of, SaysItsWords}
-use Rattle.code_sequence.specs.FromNets.{MatchInputs}
+use Rattle.ground_net.specs.Cycles.{NetState, Inputs}
+use Rattle.ground_net.specs.Nets.{IsNet, IsWithin}
+use Rattle.ground_net.specs.Words.{words_of, SaysItsWords}
+use Rattle.partition_code.specs.FromNets.{MatchInputs}
 use Rattle.cone_cutter.specs.Splits.{IsSplit}
 use Rattle.partition_code.specs.Codes.{AreCodesOf}
 use Rattle.crew_run.specs.declared.run.Run.{Run}

@@ -3,8 +3,8 @@
 ghost use Rattle.std.specs.Prelude.{◌≡◌, ℕ, ◌+◌, ◌≤◌, length, IfOk};
 ghost use Rattle.ground_net.specs.declared.net.Net.{Net as TheNet};
 ghost use Rattle.ground_net.specs.Watching.{inputs};
-ghost use Rattle.net_meaning.specs.Cycles.{Inputs};
-ghost use Rattle.net_meaning.specs.Nets.{IsNet};
+ghost use Rattle.ground_net.specs.Cycles.{Inputs};
+ghost use Rattle.ground_net.specs.Nets.{IsNet};
 ghost use Rattle.stimulus.specs.Stimuli.{IsFormed};
 ghost use Rattle.circuit_run.specs.NetRuns.{given_in};
 ghost use Rattle.crew_run.specs.Runs.{MatchGiven};

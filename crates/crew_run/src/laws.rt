@@ -10,9 +10,9 @@ ghost use Rattle.net_laws.specs.Serves.{Serves};
 ghost use Rattle.stimulus.specs.declared.stimulus.Stimulus.{Stimulus as TheStimulus};
 ghost use Rattle.circuit_run.specs.Traces.{IsTraceText};
 
-/// Two runs that came to their end from sinks that hold the same wrote the same, whatever the numbers of their workers: each appended a
-/// trace of the circuit under the stimulus, as `simulate` says.
-pub fn traces_are_the_same_for_all_numbers_of_workers()
+/// Two traces of a circuit under one stimulus that are appended to the same leave the same. So two runs that came to their end left sinks
+/// alike that were alike: each appended such a trace, as `simulate` says of any number of workers.
+pub fn traces_of_a_circuit_are_written_alike()
     ensures { (texts : Texts) (design : Design) (net : TheNet) (sequence : List ℕ) → Serves texts design net → IsOrder net sequence → (stimulus : TheStimulus) (old new other : Option (List ℕ)) (bytes others : List ℕ)
         → IsTraceText texts design stimulus bytes → Appends old new bytes → IsTraceText texts design stimulus others → Appends old other others → new ≡ other }
 {}

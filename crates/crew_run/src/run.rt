@@ -4,7 +4,7 @@ ghost use Rattle.std.specs.Prelude.{◌≡◌, ℕ, ◌+◌, ◌*◌, ◌^◌, �
 ghost use Rattle.ground_net.specs.declared.net.Ordered.{Ordered as OneNet};
 ghost use Rattle.ground_net.specs.declared.net.Cut.{Cut as OneCut};
 ghost use Rattle.ground_net.specs.declared.net.CutPart.{CutPart as OnePart};
-ghost use Rattle.net_meaning.specs.Cycles.{NetState, Inputs, first_state};
+ghost use Rattle.ground_net.specs.Cycles.{NetState, Inputs, first_state};
 ghost use Rattle.cone_cutter.specs.Cuts.{IsCut};
 ghost use Rattle.cone_cutter.specs.Splits.{IsSplit};
 ghost use Rattle.register_table.specs.Shown.{closed_script};

@@ -4,8 +4,8 @@ ghost use Rattle.std.specs.Prelude.{◌≡◌, ◌≢◌, ℕ, ◌<◌, ◌≤�
 ghost use Rattle.shelf_io.specs.Outside.{Appends, Rose};
 ghost use Rattle.fir_tree.specs.LeafNames.{Texts};
 ghost use Rattle.fir_meaning.specs.Components.{Design};
-ghost use Rattle.net_meaning.specs.Cycles.{first_state};
-ghost use Rattle.net_meaning.specs.Words.{SaysItsWords};
+ghost use Rattle.ground_net.specs.Cycles.{first_state};
+ghost use Rattle.ground_net.specs.Words.{SaysItsWords};
 ghost use Rattle.net_of_circuit.specs.FlatOrder.{Standing, flat_of};
 ghost use Rattle.net_laws.specs.Serves.{Serves};
 ghost use Rattle.cone_cutter.specs.Splits.{IsSplit};

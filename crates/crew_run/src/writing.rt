@@ -5,7 +5,7 @@ ghost use Rattle.bit_words.specs.declared.value.Value.{Value as OneValue};
 ghost use Rattle.shelf_io.specs.Outside.{Appends, Rose};
 ghost use Rattle.ground_net.specs.declared.net.Ordered.{Ordered as OneNet};
 ghost use Rattle.ground_net.specs.declared.net.CutPart.{CutPart as OnePart};
-ghost use Rattle.net_meaning.specs.Cycles.{NetState};
+ghost use Rattle.ground_net.specs.Cycles.{NetState};
 ghost use Rattle.register_table.specs.Shown.{closed_script};
 ghost use Rattle.circuit_run.specs.NetRuns.{inputs_from};
 ghost use Rattle.circuit_run.specs.declared.fault.RunFault.TheVariants.{WriteFault};

@@ -29,7 +29,7 @@ use Rattle.ground_net.specs.declared.net.Role.TheVariants as role
 use Rattle.ground_net.specs.Cones.{Sink, A_watched, A_register, A_memory, sinks, needs, needs_of_register, needs_of_memory, register_needs, memory_needs, port_needs, reads_need, or_no_leaf, InCone, needed as by_need, behind as by_reads}
 use Rattle.ground_net.specs.Reads.{IsAssigned, Reads}
 use Rattle.ground_net.specs.Watching.{is_shown, port_leaf, told_where}
-use Rattle.net_meaning.specs.Nets.{IsNet}
+use Rattle.ground_net.specs.Nets.{IsNet}
 use Rattle.net_of_circuit.specs.FlatOrder.{Placed, Standing, all_leaves, all_memories, flat_of, ListsLeaves}
 use Rattle.net_of_circuit.specs.NetOf.{Part, Given, Without_value, Held, Driven, part_of_role, Names, NameAll, IsPortOf, IsMemoryOf, IsNetOf, IsNetWith, may_write, may_read, has_mode}
 use Rattle.net_laws.specs.Serves.{Serves}

@@ -6,3 +6,5 @@ pub mod Elements
 pub mod Circuits
 pub mod Texts
 pub mod Accepted
+pub mod OneListing
+pub mod RefinedOnce

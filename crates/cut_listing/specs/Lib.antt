@@ -1,2 +1,4 @@
 pub mod Listing
 pub mod CircuitCuts
+-- what a reader must believe
+pub mod RefinedTexts

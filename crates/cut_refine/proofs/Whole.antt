@@ -10,12 +10,13 @@ use Rattle.ground_net.specs.declared.net.CutPart.{CutPart}
 use Rattle.ground_net.specs.Cones.{sinks}
 use Rattle.ground_net.specs.Reads.{IsOrder}
 use Rattle.cone_cutter.specs.Cuts.{Lists, InConeOf, IsCut}
-use Rattle.cone_cutter.specs.Rows.{places_of, read_rows, need_rows, ConeAt}
+use Rattle.cone_cutter.specs.Rows.{places_of, read_rows, need_rows, reads_in, needs_in, AreNetRows, ConeAt}
 use Rattle.cone_cutter.specs.Loads.{parts_by}
 use Rattle.cone_cutter.proofs.Lists.{counts_same}
 use Rattle.cone_cutter.proofs.KeyPlaces.{place_from}
-use Rattle.cone_cutter.proofs.Assembly.{cone_to, cone_from, read_rows_long, reads_below, needs_below, need_rows_long}
-use Rattle.cut_refine.specs.declared.cones.ConeRows.{ConeRows}
+use Rattle.cone_cutter.proofs.Assembly.{cone_to, cone_from, read_rows_long, need_rows_long}
+use Rattle.cone_cutter.proofs.Wide.{reads_long, needs_long}
+use Rattle.cone_cutter.specs.declared.rows.NetRows.{NetRows}
 use Rattle.cut_refine.specs.declared.fullest.Fullest.{Fullest}
 use Rattle.cut_refine.specs.declared.look.Look.{Look}
 use Rattle.cut_refine.specs.declared.standing.Standing.{Standing}
@@ -32,13 +33,13 @@ use Rattle.cut_refine.proofs.Closing.{parts_long, unions_are, owners_are}
 abbrev pub BestOf : Standing → Fullest → List ℕ → Target → Type 0
 BestOf standing full cone target = (far : ℕ) × IsMostBut standing.costs.items full.part far × IsTarget (greatest_with standing cone full.counts.items full.part (slice_index standing.costs.items far)) (length standing.costs.items) full.part target
 
-module _ (rows : ConeRows) (standing : Standing) (full : Fullest) (small : AreConeRows rows) (stands : Stands rows standing) (is_full : IsFullestPart rows standing full)
-    (s : ℕ) (there : Contains (places_of standing.owners.items full.part) s) (found : List ℕ) (listed : Lists (cone_of rows s) found) (below : (x : ℕ) → Contains found x → x < length rows.reads.items)
+module _ (rows : NetRows) (standing : Standing) (full : Fullest) (small : AreConeRows rows) (stands : Stands rows standing) (is_full : IsFullestPart rows standing full)
+    (s : ℕ) (there : Contains (places_of standing.owners.items full.part) s) (found : List ℕ) (listed : Lists (cone_of rows s) found) (below : (x : ℕ) → Contains found x → x < rows.leaves)
     (target : Target) (best : BestOf standing full found target) where
   pub row_of : IsRow (cone_of rows) (length standing.costs.items) standing.owners.items s (record { sink = s; target = target.part; greatest = target.greatest })
   row_of =
       let from = place_from standing.owners.items full.part s there in
-      row_is (cone_of rows) (length rows.reads.items) (length standing.costs.items) standing.owners.items standing.masks.items standing.costs.items stands.is s full.part from.0 from.1 found full.counts.items listed below is_full.counts
+      row_is (cone_of rows) rows.leaves (length standing.costs.items) standing.owners.items standing.masks.items standing.costs.items stands.is s full.part from.0 from.1 found full.counts.items listed below is_full.counts
       best.0 best.1 target best.2 (record { sink = s; target = target.part; greatest = target.greatest }) refl refl refl
 
   pub row_small : target.greatest < 2 ^ 32
@@ -47,7 +48,7 @@ module _ (rows : ConeRows) (standing : Standing) (full : Fullest) (small : AreCo
       omega (arith, cost_small rows small (slice_set standing.owners.items s target.part) is.part target.greatest is.reached, small.few)
 
 -- The look.
-module _ (rows : ConeRows) (standing : Standing) (look : Look) (stands : Stands rows standing) (full : IsFullestPart rows standing look.full) (cost : slice_index standing.costs.items look.full.part ≡ look.greatest)
+module _ (rows : NetRows) (standing : Standing) (look : Look) (stands : Stands rows standing) (full : IsFullestPart rows standing look.full) (cost : slice_index standing.costs.items look.full.part ≡ look.greatest)
     (sized : AreSized (cone_of rows) (length rows.needed.items)) (chosen : IsChosen look.table look.greatest look.best) where
   greatest_is : IsGreatest (cone_of rows) (length standing.costs.items) standing.owners.items look.greatest
   greatest_is = is_greatest (cone_of rows) (length standing.costs.items) standing.owners.items standing.costs.items look.full.part look.greatest refl full.part stands.is.counts cost
@@ -80,13 +81,13 @@ module _ (rows : ConeRows) (standing : Standing) (look : Look) (stands : Stands 
       }
 
 -- A step.
-module _ (rows : ConeRows) (old new : Standing) (look : Look) (stands : Stands rows old) (is : IsLook rows old look) (lowers : look.best.greatest < look.greatest) (found : List ℕ) (listed : Lists (cone_of rows look.best.sink) found)
-    (below : (x : ℕ) → Contains found x → x < length rows.reads.items) (leaves : Leaves look.full.part found look.full.counts.items look.best old new) where
-  standing_now : IsStanding (cone_of rows) (length rows.reads.items) (length old.costs.items) (moved old.owners.items look.best) new.masks.items new.costs.items
+module _ (rows : NetRows) (old new : Standing) (look : Look) (stands : Stands rows old) (is : IsLook rows old look) (lowers : look.best.greatest < look.greatest) (found : List ℕ) (listed : Lists (cone_of rows look.best.sink) found)
+    (below : (x : ℕ) → Contains found x → x < rows.leaves) (leaves : Leaves look.full.part found look.full.counts.items look.best old new) where
+  standing_now : IsStanding (cone_of rows) rows.leaves (length old.costs.items) (moved old.owners.items look.best) new.masks.items new.costs.items
   standing_now =
       let move = (is.best lowers).is_move in
       let own = is.from lowers in
-      stands_behind (cone_of rows) (length rows.reads.items) (length old.costs.items) old.owners.items old.masks.items old.costs.items stands.is look.best.sink look.full.part move.sink own found look.full.counts.items listed below is.full.counts
+      stands_behind (cone_of rows) rows.leaves (length old.costs.items) old.owners.items old.masks.items old.costs.items stands.is look.best.sink look.full.part move.sink own found look.full.counts.items listed below is.full.counts
       look.best.target move.target (λ e. move.other (own ∙ sym e)) leaves.between new.masks.items leaves.loses leaves.gets stands.few new.costs.items leaves.costs
 
   pub costs_stay : length new.costs.items ≡ length old.costs.items
@@ -97,12 +98,12 @@ module _ (rows : ConeRows) (old new : Standing) (look : Look) (stands : Stands r
     long = ap length leaves.owners ∙ (length-set old.owners.items look.best.sink look.best.target ∙ stands.long);
     some = omega (arith, costs_stay, stands.some);
     few = omega (arith, costs_stay, stands.few);
-    is = subst (λ o. IsStanding (cone_of rows) (length rows.reads.items) (length new.costs.items) o new.masks.items new.costs.items) (sym leaves.owners)
-        (subst (λ n. IsStanding (cone_of rows) (length rows.reads.items) n (moved old.owners.items look.best) new.masks.items new.costs.items) (sym costs_stay) standing_now);
+    is = subst (λ o. IsStanding (cone_of rows) rows.leaves (length new.costs.items) o new.masks.items new.costs.items) (sym leaves.owners)
+        (subst (λ n. IsStanding (cone_of rows) rows.leaves n (moved old.owners.items look.best) new.masks.items new.costs.items) (sym costs_stay) standing_now);
   }
 
 -- One step further.
-module _ (rows : ConeRows) (count : ℕ) (parts : List CutPart) (old new : Standing) (look next : Look) (is : IsLook rows old look) (lowers : look.best.greatest < look.greatest)
+module _ (rows : NetRows) (count : ℕ) (parts : List CutPart) (old new : Standing) (look next : Look) (is : IsLook rows old look) (lowers : look.best.greatest < look.greatest)
     (owners : new.owners.items ≡ moved old.owners.items look.best) (same : length new.costs.items ≡ length old.costs.items) (many : length old.costs.items ≡ length parts) where
   pub falls : IsLook rows new next → next.greatest < look.greatest
   falls then =
@@ -123,43 +124,39 @@ module _ (rows : ConeRows) (count : ℕ) (parts : List CutPart) (old new : Stand
   }
 
 -- What the net gives.
-module _ (net : Net) (watch : List ℕ) (rows : ConeRows) (er : rows.reads.items ≡ read_rows net) (en : rows.needed.items ≡ need_rows net (sinks net watch)) where
-  pub leaves_long : length rows.reads.items ≡ length net.leaves
-  leaves_long = ap length er ∙ read_rows_long net
+module _ (net : Net) (watch : List ℕ) (rows : NetRows) (er : reads_in rows ≡ read_rows net) (en : needs_in rows ≡ need_rows net (sinks net watch)) where
+  pub leaves_long : rows.leaves ≡ length net.leaves
+  leaves_long = omega (arith, reads_long rows, ap length er, read_rows_long net)
 
   pub sinks_long : length rows.needed.items ≡ length (sinks net watch)
-  sinks_long = ap length en ∙ need_rows_long net (sinks net watch)
+  sinks_long = omega (arith, needs_long rows, ap length en, need_rows_long net (sinks net watch))
 
-  pub rows_are : length net.leaves < 2 ^ 32 → length (sinks net watch) < 2 ^ 32 → AreConeRows rows
-  rows_are few few_sinks = record {
-    few = omega (arith, leaves_long, few);
-    few_sinks = omega (arith, sinks_long, few_sinks);
-    below = reads_below net rows.reads.items er;
-    needs_below = needs_below net rows.reads.items rows.needed.items (sinks net watch) er en;
-  }
+  pub rows_are : AreNetRows rows → length net.leaves < 2 ^ 32 → length (sinks net watch) < 2 ^ 32 → AreConeRows rows
+  rows_are are few few_sinks = record { few = omega (arith, leaves_long, few); few_sinks = omega (arith, sinks_long, few_sinks); are = are }
 
   pub rows_sized : (sequence : List ℕ) (workers : ℕ) (start : Cut) → IsCut (record { net = net; sequence = sequence }) watch workers start → AreSized (cone_of rows) (length rows.needed.items)
   rows_sized sequence workers start is k lt = (
     is.are_placed.size k,
-    counts_same (InConeOf net watch k) (ConeAt rows.reads.items rows.needed.items k) (is.are_placed.size k) (cone_to net watch rows.reads.items rows.needed.items er en k)
-        (cone_from net watch rows.reads.items rows.needed.items er en k) (is.are_placed.sizes k (omega (arith, lt, sinks_long))),
+    counts_same (InConeOf net watch k) (ConeAt (reads_in rows) (needs_in rows) k) (is.are_placed.size k) (cone_to net watch (reads_in rows) (needs_in rows) er en k)
+        (cone_from net watch (reads_in rows) (needs_in rows) er en k) (is.are_placed.sizes k (omega (arith, lt, sinks_long))),
   )
 
 -- The end.
-module _ (ordered : Ordered) (watch : List ℕ) (start : Cut) (order : IsOrder ordered.net ordered.sequence) (rows : ConeRows) (er : rows.reads.items ≡ read_rows ordered.net) (en : rows.needed.items ≡ need_rows ordered.net (sinks ordered.net watch))
+module _ (ordered : Ordered) (watch : List ℕ) (start : Cut) (order : IsOrder ordered.net ordered.sequence) (rows : NetRows) (er : reads_in rows ≡ read_rows ordered.net) (en : needs_in rows ≡ need_rows ordered.net (sinks ordered.net watch))
     (standing : Standing) (look : Look) (stands : Stands rows standing) (many : length standing.costs.items ≡ length start.parts) (is : IsLook rows standing look) (none : look.greatest ≤ look.best.greatest)
     (way : IsUnderWay rows (length (sinks ordered.net watch)) start.parts standing.owners.items) (parts : List CutPart) (are : parts ≡ parts_by standing.owners.items standing.masks.items ordered.sequence (length start.parts)) where
   to : (k x : ℕ) → InConeOf ordered.net watch k x → cone_of rows k x
-  to = cone_to ordered.net watch rows.reads.items rows.needed.items er en
+  to = cone_to ordered.net watch (reads_in rows) (needs_in rows) er en
 
   from : (k x : ℕ) → cone_of rows k x → InConeOf ordered.net watch k x
-  from = cone_from ordered.net watch rows.reads.items rows.needed.items er en
+  from = cone_from ordered.net watch (reads_in rows) (needs_in rows) er en
 
   long : length standing.owners.items ≡ length (sinks ordered.net watch)
   long = stands.long ∙ sinks_long ordered.net watch rows er en
 
-  standing_is : IsStanding (ConeAt rows.reads.items rows.needed.items) (length rows.reads.items) (length start.parts) standing.owners.items standing.masks.items standing.costs.items
-  standing_is = subst (λ n. IsStanding (ConeAt rows.reads.items rows.needed.items) (length rows.reads.items) n standing.owners.items standing.masks.items standing.costs.items) many stands.is
+  standing_is : IsStanding (ConeAt (reads_in rows) (needs_in rows)) (length (reads_in rows)) (length start.parts) standing.owners.items standing.masks.items standing.costs.items
+  standing_is = subst (λ m. IsStanding (cone_of rows) m (length start.parts) standing.owners.items standing.masks.items standing.costs.items) (sym (reads_long rows))
+      (subst (λ n. IsStanding (cone_of rows) rows.leaves n standing.owners.items standing.masks.items standing.costs.items) many stands.is)
 
   ending : Refines (cone_of rows) (length start.parts) standing.owners.items standing.owners.items look.greatest
   ending = ended look.greatest (subst (λ n. IsGreatest (cone_of rows) n standing.owners.items look.greatest) many is.greatest)
@@ -171,9 +168,9 @@ module _ (ordered : Ordered) (watch : List ℕ) (start : Cut) (order : IsOrder o
     firsts = way.firsts;
     owners = standing.owners.items;
     refines = refines_lift (cone_of rows) (InConeOf ordered.net watch) from to (length start.parts) way.first standing.owners.items look.greatest (way.refines standing.owners.items look.greatest ending);
-    count = parts_long ordered.net watch ordered.sequence order rows.reads.items rows.needed.items er en (length start.parts) standing.owners.items standing.masks.items standing.costs.items standing_is long parts are;
-    of_owners = owners_are ordered.net watch ordered.sequence order rows.reads.items rows.needed.items er en (length start.parts) standing.owners.items standing.masks.items standing.costs.items standing_is long parts are;
-    unions = unions_are ordered.net watch ordered.sequence order rows.reads.items rows.needed.items er en (length start.parts) standing.owners.items standing.masks.items standing.costs.items standing_is long parts are;
+    count = parts_long ordered.net watch ordered.sequence order (reads_in rows) (needs_in rows) er en (length start.parts) standing.owners.items standing.masks.items standing.costs.items standing_is long parts are;
+    of_owners = owners_are ordered.net watch ordered.sequence order (reads_in rows) (needs_in rows) er en (length start.parts) standing.owners.items standing.masks.items standing.costs.items standing_is long parts are;
+    unions = unions_are ordered.net watch ordered.sequence order (reads_in rows) (needs_in rows) er en (length start.parts) standing.owners.items standing.masks.items standing.costs.items standing_is long parts are;
     needed = refl;
     table = table_lift (cone_of rows) (InConeOf ordered.net watch) from to (length start.parts) standing.owners.items look.greatest look.table
         (subst (λ n. IsTable (cone_of rows) n standing.owners.items look.greatest look.table) many is.table);

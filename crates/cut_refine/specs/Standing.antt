@@ -2,9 +2,9 @@
 use Rattle.std.specs.Prelude.{◌≡◌, ◌≢◌, ◌↔◌, ℕ, ◌+◌, ◌-◌, ◌^◌, ◌<◌, ◌≤◌, ◌==◌, true, false, IsTrue, List, length, count_by, slice_get, slice_index, slice_set, Contains, Some, max}
 use Rattle.ground_net.specs.declared.net.CutPart.{CutPart}
 use Rattle.cone_cutter.specs.Cuts.{Counts, Lists, NeededBy}
-use Rattle.cone_cutter.specs.Rows.{AreBelow, ConeAt, places_of}
+use Rattle.cone_cutter.specs.Rows.{AreNetRows, reads_in, needs_in, ConeAt, places_of}
 use Rattle.cone_cutter.specs.Loads.{holds, cost_with, Gets}
-use Rattle.cut_refine.specs.declared.cones.ConeRows.{ConeRows}
+use Rattle.cone_cutter.specs.declared.rows.NetRows.{NetRows}
 use Rattle.cut_refine.specs.declared.walker.Walker.{Walker}
 use Rattle.cut_refine.specs.declared.standing.Standing.{Standing}
 use Rattle.cut_refine.specs.declared.fullest.Fullest.{Fullest}
@@ -14,31 +14,30 @@ use Rattle.cut_refine.specs.declared.look.Look.{Look}
 use Rattle.cut_refine.specs.Refining.{HasCost, IsGreatest, NoneLowers, IsBest, Refines, IsTable, AreOwners}
 
 -- the cone of the sink of a number
-abbrev pub cone_of : ConeRows → ℕ → ℕ → Type 0
-cone_of rows = ConeAt rows.reads.items rows.needed.items
+abbrev pub cone_of : NetRows → ℕ → ℕ → Type 0
+cone_of rows = ConeAt (reads_in rows) (needs_in rows)
 
--- the rows have numbers of leaves, and there are few
-pub record AreConeRows (rows : ConeRows) : Type 0 where
-  pub few : length rows.reads.items < 2 ^ 32
+-- rows of a net with few leaves and sinks
+pub record AreConeRows (rows : NetRows) : Type 0 where
+  pub few : rows.leaves < 2 ^ 32
   pub few_sinks : length rows.needed.items < 2 ^ 32
-  pub below : AreBelow (length rows.reads.items) rows.reads.items
-  pub needs_below : AreBelow (length rows.reads.items) rows.needed.items
+  pub are : AreNetRows rows
 
 -- each of so many cones has a size
 abbrev pub AreSized : (ℕ → ℕ → Type 0) → ℕ → Type 0
 AreSized cone count = (k : ℕ) → k < count → (n : ℕ) × Counts (cone k) n
 
--- no leaf has the number of a later walk
-pub record IsReady (rows : ConeRows) (walker : Walker) : Type 0 where
+-- no number has that of a later walk
+pub record IsReady (rows : NetRows) (walker : Walker) : Type 0 where
   pub long : length walker.stamps.items ≡ length rows.reads.items
   pub early : (v : ℕ) → slice_index walker.stamps.items v ≤ walker.turn
 
 -- one more walk, of the cone of this sink
-pub record Walks (rows : ConeRows) (sink : ℕ) (old new : Walker) : Type 0 where
+pub record Walks (rows : NetRows) (sink : ℕ) (old new : Walker) : Type 0 where
   pub ready : IsReady rows new
   pub turn : new.turn ≡ old.turn + 1
   pub listed : Lists (cone_of rows sink) new.found.items
-  pub below : (x : ℕ) → Contains new.found.items x → x < length rows.reads.items
+  pub below : (x : ℕ) → Contains new.found.items x → x < rows.leaves
 
 -- one of these sinks that needs the leaf
 abbrev pub NeedsIt : (ℕ → ℕ → Type 0) → List ℕ → ℕ → ℕ → Type 0
@@ -63,11 +62,11 @@ pub record IsStanding (cone : ℕ → ℕ → Type 0) (leaves workers : ℕ) (ow
   pub held : (p x : ℕ) → p < workers → x < leaves → IsTrue (holds masks p x) ↔ NeededBy cone (places_of owners p) x
   pub counts : (p : ℕ) → p < workers → HasCost cone owners p (slice_index costs p)
 
-pub record Stands (rows : ConeRows) (standing : Standing) : Type 0 where
+pub record Stands (rows : NetRows) (standing : Standing) : Type 0 where
   pub long : length standing.owners.items ≡ length rows.needed.items
   pub some : 0 < length standing.costs.items
   pub few : length standing.costs.items ≤ 64
-  pub is : IsStanding (cone_of rows) (length rows.reads.items) (length standing.costs.items) standing.owners.items standing.masks.items standing.costs.items
+  pub is : IsStanding (cone_of rows) (rows.leaves) (length standing.costs.items) standing.owners.items standing.masks.items standing.costs.items
 
 -- the sinks get an owner, and others keep theirs
 pub record Owns (part : ℕ) (sinks old new : List ℕ) : Type 0 where
@@ -133,10 +132,10 @@ abbrev pub greatest_with : Standing → List ℕ → List ℕ → ℕ → ℕ �
 greatest_with standing cone counts part most p = max (max (cost_without standing.costs.items cone counts part) most) (cost_with standing.masks.items standing.costs.items cone p)
 
 -- The first part with the greatest cost, its sinks, and how many of them need each leaf.
-pub record IsFullestPart (rows : ConeRows) (standing : Standing) (full : Fullest) : Type 0 where
+pub record IsFullestPart (rows : NetRows) (standing : Standing) (full : Fullest) : Type 0 where
   pub part : IsFirstMost standing.costs.items full.part
   pub sinks : full.sinks.items ≡ places_of standing.owners.items full.part
-  pub counts : AreCounts (cone_of rows) (length rows.reads.items) (places_of standing.owners.items full.part) full.counts.items
+  pub counts : AreCounts (cone_of rows) (rows.leaves) (places_of standing.owners.items full.part) full.counts.items
 
 -- the first of the rows with the least greatest cost
 pub record IsFirstLeast (table : List Move) (best : Move) : Type 0 where
@@ -151,7 +150,7 @@ pub record IsChosen (table : List Move) (greatest : ℕ) (best : Move) : Type 0 
   pub none : greatest ≤ best.greatest → (i : ℕ) (move : Move) → slice_get table i ≡ Some move → greatest ≤ move.greatest
 
 -- What is seen of moves: the fullest part, the table, and the best move where one lowers the greatest cost.
-pub record IsLook (rows : ConeRows) (standing : Standing) (look : Look) : Type 0 where
+pub record IsLook (rows : NetRows) (standing : Standing) (look : Look) : Type 0 where
   pub full : IsFullestPart rows standing look.full
   pub cost : slice_index standing.costs.items look.full.part ≡ look.greatest
   pub greatest : IsGreatest (cone_of rows) (length standing.costs.items) standing.owners.items look.greatest
@@ -161,7 +160,7 @@ pub record IsLook (rows : ConeRows) (standing : Standing) (look : Look) : Type 0
   pub from : look.best.greatest < look.greatest → slice_index standing.owners.items look.best.sink ≡ look.full.part
 
 -- What was done so far: refining from here on is refining from the start on, where the sinks stood as in these parts.
-pub record IsUnderWay (rows : ConeRows) (count : ℕ) (parts : List CutPart) (owners : List ℕ) : Type 0 where
+pub record IsUnderWay (rows : NetRows) (count : ℕ) (parts : List CutPart) (owners : List ℕ) : Type 0 where
   pub first : List ℕ
   pub firsts : AreOwners count parts first
   pub refines : (last : List ℕ) (least : ℕ) → Refines (cone_of rows) (length parts) owners last least → Refines (cone_of rows) (length parts) first last least

@@ -4,19 +4,19 @@ ghost use Rattle.std.specs.Prelude.{◌≡◌, ℕ, ◌+◌, ◌<◌, ◌^◌, �
 ghost use Rattle.cone_cutter.specs.Walks.{IsOnce};
 ghost use Rattle.cut_refine.specs.Standing.{cone_of, AreConeRows, AreCounts, Raises};
 
-use crate::cones::ConeRows;
 use crate::walker::Walker;
+use cone_cutter::NetRows;
 use std::alloc::{AllocError, Global};
 
 /// For each leaf how many of these sinks need it.
-pub fn counts_of(alloc: Global, rows: &ConeRows, sinks: &[u32]) -> Result<Vec<u32>, AllocError>
+pub fn counts_of(alloc: Global, rows: &NetRows, sinks: &[u32]) -> Result<Vec<u32>, AllocError>
     requires rows { AreConeRows rows.now }
     requires within { All (λ k. k < length rows.now.needed.items) sinks.now }
     requires once { IsOnce sinks.now }
     requires few { length sinks.now < 2 ^ 32 }
-    ensures { IfOk result (λ counts. AreCounts (cone_of rows.now) (length rows.now.reads.items) sinks.now counts.items) }
+    ensures { IfOk result (λ counts. AreCounts (cone_of rows.now) rows.now.leaves sinks.now counts.items) }
 {
-    let leaves = rows.reads.len();
+    let leaves = rows.leaves;
     let mut walker = Walker::new(alloc, rows)?;
     let mut table = vec![in alloc; 0; leaves]?;
     let counts = table.as_mut_slice();

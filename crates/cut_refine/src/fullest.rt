@@ -4,9 +4,9 @@ ghost use Rattle.std.specs.Prelude.{◌≡◌, ◌<◌, ◌^◌, length, IfOk};
 ghost use Rattle.cone_cutter.specs.Rows.{places_of};
 ghost use Rattle.cut_refine.specs.Standing.{AreConeRows, Stands, IsFirstMost, IsFullestPart};
 
-use crate::cones::ConeRows;
 use crate::counting::counts_of;
 use crate::standing::Standing;
+use cone_cutter::NetRows;
 use std::alloc::{AllocError, Global};
 
 /// A part, its sinks, and for each leaf how many of them need it.
@@ -19,7 +19,7 @@ pub struct Fullest {
 
 impl Fullest {
     /// The first part that has the greatest cost. Walks the cone of each of its sinks.
-    pub fn new(alloc: Global, rows: &ConeRows, standing: &Standing) -> Result<Fullest, AllocError>
+    pub fn new(alloc: Global, rows: &NetRows, standing: &Standing) -> Result<Fullest, AllocError>
         requires rows { AreConeRows rows.now }
         requires stands { Stands rows.now standing.now }
         ensures { IfOk result (IsFullestPart rows.now standing.now) }

@@ -4,7 +4,6 @@
 #![tactic(auto)]
 
 mod by_rule;
-mod cones;
 mod counting;
 mod fullest;
 pub mod laws;

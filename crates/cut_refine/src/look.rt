@@ -6,7 +6,6 @@ ghost use Rattle.cone_cutter.specs.Rows.{places_of};
 ghost use Rattle.cut_refine.specs.Refining.{IsRow};
 ghost use Rattle.cut_refine.specs.Standing.{cone_of, AreConeRows, AreSized, Stands, IsMostBut, IsTarget, greatest_with, IsFullestPart, IsChosen, IsLook};
 
-use crate::cones::ConeRows;
 use crate::counting::lost;
 use crate::fullest::Fullest;
 use crate::refined::Move;
@@ -14,7 +13,7 @@ use crate::standing::Standing;
 use crate::targets::{Target, best_target, most_but};
 use crate::walker::Walker;
 use bit_words::List;
-use cone_cutter::count_shared;
+use cone_cutter::{NetRows, count_shared};
 use std::alloc::{AllocError, Global};
 
 /// The fullest part, its cost, a row for each of its sinks, and the best of these moves where one lowers the cost.
@@ -28,7 +27,7 @@ pub struct Look {
 
 impl Look {
     /// Walks the cone of each sink of the fullest part twice.
-    pub fn new(alloc: Global, rows: &ConeRows, standing: &Standing) -> Result<Look, AllocError>
+    pub fn new(alloc: Global, rows: &NetRows, standing: &Standing) -> Result<Look, AllocError>
         requires rows { AreConeRows rows.now }
         requires stands { Stands rows.now standing.now }
         requires sized { AreSized (cone_of rows.now) (length rows.now.needed.items) }
@@ -54,7 +53,7 @@ impl Look {
 /// A row for each sink of the fullest part: of its moves the one after which the greatest cost is least, to the lowest part on a tie.
 fn table_of(
     alloc: Global,
-    rows: &ConeRows,
+    rows: &NetRows,
     standing: &Standing,
     full: &Fullest,
 ) -> Result<List<Move>, AllocError>

@@ -6,11 +6,10 @@ ghost use Rattle.ground_net.specs.Reads.{IsOrder};
 ghost use Rattle.cone_cutter.specs.Cuts.{IsCut};
 ghost use Rattle.cut_refine.specs.Refining.{IsRefined};
 
-use crate::cones::ConeRows;
 use crate::look::Look;
 use crate::refined::Refined;
 use crate::standing::Standing;
-use cone_cutter::parts_of;
+use cone_cutter::{NetRows, parts_of};
 use ground_net::{Cut, Ordered};
 use std::alloc::{AllocError, Global};
 
@@ -33,8 +32,8 @@ pub fn refine(
     requires cut { IsCut ordered.now watch.now (length start.now.parts) start.now }
     ensures { IfOk result (IsRefined ordered.now watch.now start.now) }
 {
-    let rows = ConeRows::new(alloc, &ordered.net, watch)?;
-    let leaves = rows.reads.len();
+    let rows = NetRows::new(alloc, &ordered.net, watch)?;
+    let leaves = rows.leaves;
     let sinks = rows.needed.len();
     let mut standing = Standing::of_parts(alloc, leaves, sinks, start.parts.as_slice())?;
     let mut look = Look::new(alloc, &rows, &standing)?;

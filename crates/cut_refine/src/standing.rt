@@ -5,11 +5,10 @@ ghost use Rattle.cone_cutter.specs.Loads.{has_bit, shared_by};
 ghost use Rattle.cut_refine.specs.Refining.{moved};
 ghost use Rattle.cut_refine.specs.Standing.{AreConeRows, Stands, Owns, AreParted, AreApart, Loses, Leaves, IsLook};
 
-use crate::cones::ConeRows;
 use crate::counting::lost;
 use crate::look::Look;
 use crate::walker::Walker;
-use cone_cutter::{count_shared, give, no_stamps, without_bit};
+use cone_cutter::{NetRows, count_shared, give, no_stamps, without_bit};
 use ground_net::CutPart;
 use std::alloc::{AllocError, Global};
 
@@ -60,7 +59,7 @@ impl Standing {
     }
 
     /// Makes the best move.
-    pub fn make(&mut self, alloc: Global, rows: &ConeRows, look: &Look) -> Result<(), AllocError>
+    pub fn make(&mut self, alloc: Global, rows: &NetRows, look: &Look) -> Result<(), AllocError>
         requires rows { AreConeRows rows.now }
         requires stands { Stands rows.now self.old }
         requires look { IsLook rows.now self.old look.now }

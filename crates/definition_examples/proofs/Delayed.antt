@@ -12,11 +12,11 @@ use Rattle.ground_net.specs.declared.net.NetRead.{NetRead}
 use Rattle.ground_net.specs.declared.net.ElementLeaf.{ElementLeaf}
 use Rattle.ground_net.specs.Reads.{IsAssigned, Reads, IsOrder, driver_of}
 use Rattle.ground_net.proofs.Layers.{mentions-Leaf}
-use Rattle.net_meaning.specs.Shapes.{shape}
-use Rattle.net_meaning.specs.Cycles.{Capture, captures}
-use Rattle.net_meaning.specs.Nets.{IsNet, IsPort, IsUnsigned, AreElements, HasRole, table_of, leaf_shape, element_shape, may_be_driven}
-use Rattle.net_meaning.specs.Words.{SaysItsWords, memory_word}
-use Rattle.net_meaning.proofs.Shaping.{shape-Leaf}
+use Rattle.ground_net.specs.Shapes.{shape}
+use Rattle.ground_net.specs.Cycles.{Capture, captures}
+use Rattle.ground_net.specs.Nets.{IsNet, IsPort, IsUnsigned, AreElements, HasRole, table_of, leaf_shape, element_shape, may_be_driven}
+use Rattle.ground_net.specs.Words.{SaysItsWords, memory_word}
+use Rattle.ground_net.proofs.Shaping.{shape-Leaf}
 use Rattle.definition_examples.specs.Circuits.{leaf, reader, delayed_memory, delayed}
 
 some_same : {A : Type 0} {x y : A} → Some x ≡ Some y → x ≡ y

@@ -3,7 +3,7 @@ use Rattle.std.specs.Prelude.{ℕ, min, ◌==◌, true, false, [], ◌∷◌, So
 use Rattle.std.proofs.Math.Nat.{min-le_right}
 use Rattle.bit_words.specs.declared.value.Kind.TheVariants.{Unsigned}
 use Rattle.bit_words.specs.declared.value.Value.{Value}
-use Rattle.cycle_values.specs.Values.{fitted}
+use Rattle.prim_ops.specs.Values.{fitted}
 use Rattle.ground_net.specs.declared.ground.Ground.TheVariants as expression
 use Rattle.ground_net.specs.declared.net.Leaf.{Leaf}
 use Rattle.ground_net.specs.declared.net.Role.{Role}
@@ -11,7 +11,7 @@ use Rattle.ground_net.specs.declared.net.Role.TheVariants as role
 use Rattle.ground_net.specs.declared.net.Net.{Net}
 use Rattle.ground_net.specs.declared.net.NetMemory.{NetMemory}
 use Rattle.ground_net.specs.declared.net.NetPort.{NetPort}
-use Rattle.net_meaning.specs.Cycles.{NetState, Valuation, instant_of, next}
+use Rattle.ground_net.specs.Cycles.{NetState, Valuation, instant_of, next}
 
 -- the UInt of this width
 abbrev pub uint : ℕ → ℕ → Value

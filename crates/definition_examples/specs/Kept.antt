@@ -9,7 +9,7 @@ use Rattle.ground_net.specs.declared.net.Net.{Net}
 use Rattle.ground_net.specs.declared.net.NetMemory.{NetMemory}
 use Rattle.ground_net.specs.declared.net.NetPort.{NetPort}
 use Rattle.ground_net.specs.declared.net.ElementLeaf.{ElementLeaf}
-use Rattle.net_meaning.specs.Cycles.{NetState}
+use Rattle.ground_net.specs.Cycles.{NetState}
 use Rattle.definition_examples.specs.Circuits.{leaf}
 
 -- an unsigned leaf of an element

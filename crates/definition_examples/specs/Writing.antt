@@ -2,12 +2,12 @@
 use Rattle.std.specs.Prelude.{ℕ, ◌==◌, true, false, [], ◌∷◌, Some, None, ℤ, pos, negsuc, if◌then◌else◌}
 use Rattle.bit_words.specs.declared.value.Kind.TheVariants.{Signed}
 use Rattle.bit_words.specs.declared.value.Value.{Value}
-use Rattle.cycle_values.specs.Values.{fitted}
+use Rattle.prim_ops.specs.Values.{fitted}
 use Rattle.ground_net.specs.declared.ground.Ground.TheVariants as expression
 use Rattle.ground_net.specs.declared.net.Role.TheVariants as role
 use Rattle.ground_net.specs.declared.net.Net.{Net}
 use Rattle.ground_net.specs.declared.net.NetMemory.{NetMemory}
-use Rattle.net_meaning.specs.Cycles.{NetState, Valuation, instant_of, next}
+use Rattle.ground_net.specs.Cycles.{NetState, Valuation, instant_of, next}
 use Rattle.definition_examples.specs.Circuits.{uint, leaf, memory, reader}
 use Rattle.definition_examples.specs.Kept.{signed_leaf}
 use Rattle.definition_examples.specs.Needing.{memory_behind, port_from, writing_from, reading_from}

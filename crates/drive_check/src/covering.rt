@@ -1,7 +1,7 @@
 //! Whether all leaves that must be driven are.
 
 ghost use Rattle.std.specs.Prelude.{◌≡◌, ◌++◌, ⊤, flat_map, IfOk, OnOk};
-ghost use Rattle.fault_order.specs.Verdicts.{IsVerdict};
+ghost use Rattle.place_text.specs.Verdicts.{IsVerdict};
 ghost use Rattle.circuit_laws.specs.WellFormed.{IsWellFormed};
 ghost use Rattle.drive_check.specs.Faults.{place_of, rank_of};
 ghost use Rattle.drive_check.specs.HeldTypes.{types_in};
@@ -17,9 +17,9 @@ use crate::names::names_of;
 use crate::undriven::{Owner, push_undriven};
 use crate::walk::walk_block;
 use circuit_laws::laws::{components_are_named, names_are_declared_once};
-use fault_order::earliest;
 use fir_tree::{Fitted, Module};
 use fir_types::{FirType, Name, Port};
+use place_text::earliest;
 use std::alloc::{AllocError, Global};
 
 /// Ok where each leaf that must be driven is, whatever the values are: each sink, and each leaf of a wire, by the statements behind

@@ -5,7 +5,7 @@ ghost use Rattle.place_text.specs.declared.place.Place.{Place as APlace};
 ghost use Rattle.fir_types.specs.declared.leaf.PathStep.TheVariants.{Field};
 ghost use Rattle.fir_types.specs.declared.memory.MemLine.TheVariants.{MemPort};
 ghost use Rattle.fir_types.specs.declared.memory.PortMode.TheVariants.{Reader};
-ghost use Rattle.fault_order.specs.First.{HasNone};
+ghost use Rattle.place_text.specs.First.{HasNone};
 ghost use Rattle.fir_tree.specs.declared.scope.Fitted.{Fitted as FittedCircuit};
 ghost use Rattle.fir_meaning.specs.Components.{A_wire, A_memory, design_of};
 ghost use Rattle.fir_meaning.specs.Certain.{IsInitialized};

@@ -8,7 +8,7 @@ use Rattle.std.proofs.lemmas.Option.{slice_get_within}
 use Rattle.bit_words.specs.declared.value.Kind.{Kind}
 use Rattle.bit_words.specs.declared.value.Kind.TheVariants.{Unsigned, Signed}
 use Rattle.bit_words.specs.declared.value.Value.{Value}
-use Rattle.cycle_values.specs.Values.{is_one}
+use Rattle.prim_ops.specs.Values.{is_one}
 use Rattle.ground_net.specs.declared.ground.Ground.{Ground}
 use Rattle.ground_net.specs.declared.ground.Ground.TheVariants.{Mux}
 use Rattle.ground_net.specs.declared.circuit.GroundLeaf.{GroundLeaf}
@@ -16,9 +16,9 @@ use Rattle.ground_net.specs.declared.circuit.GroundStmt.{GroundStmt}
 use Rattle.ground_net.specs.Grounds.{Instant, value, mentions, joined, chosen}
 use Rattle.ground_net.specs.Statements.{drives, live}
 use Rattle.ground_net.proofs.Layers.{value-Mux, mentions-Mux}
-use Rattle.net_meaning.specs.Shapes.{Shape, Table, shaped, shape as shape_in, same_shape, same_kind}
+use Rattle.ground_net.specs.Shapes.{Shape, Table, shaped, shape as shape_in, same_shape, same_kind}
 use Rattle.expand_whens.specs.declared.guard.Way.{Way}
-use Rattle.net_meaning.specs.StatementShapes.{is_condition, is_shaped, some_same}
+use Rattle.ground_net.specs.StatementShapes.{is_condition, is_shaped, some_same}
 use Rattle.expand_whens.specs.Ways.{Same, guard_holds, guard_mentions, guard_fits, way_fits, outcome, way_mentions, ways_mentions}
 use Rattle.expand_whens.specs.Walking.{BlockWalks, BlockShapes, ways_at, is_covered}
 use Rattle.expand_whens.specs.Expanding.{Drives, HasDrivers, IsChoice, Chooses, IsRest, leaf_shape}

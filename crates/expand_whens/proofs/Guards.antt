@@ -10,17 +10,17 @@ use Rattle.std.proofs.lemmas.List.{take_more, map-append}
 use Rattle.std.proofs.lemmas.List.Folds.{list_all-append}
 use Rattle.bit_words.specs.declared.value.Kind.TheVariants.{Unsigned}
 use Rattle.bit_words.specs.declared.value.Value.{Value}
-use Rattle.cycle_values.specs.Values.{is_one}
+use Rattle.prim_ops.specs.Values.{is_one}
 use Rattle.ground_net.specs.declared.ground.Ground.{Ground}
 use Rattle.ground_net.specs.declared.ground.Ground.TheVariants.{Mux}
 use Rattle.ground_net.specs.Grounds.{Instant, value, mentions, joined}
 use Rattle.ground_net.specs.Statements.{all_hold}
 use Rattle.ground_net.proofs.Layers.{value-Mux, mentions-Mux}
-use Rattle.net_meaning.specs.Shapes.{Shape, Table, shaped, shape as shape_in, same_shape, is_unsigned, shape_of_choice, all_of}
+use Rattle.ground_net.specs.Shapes.{Shape, Table, shaped, shape as shape_in, same_shape, is_unsigned, shape_of_choice, all_of}
 use Rattle.expand_whens.proofs.Layers.{shape-Mux, shapes_of}
 use Rattle.expand_whens.specs.declared.guard.Asked.{Asked}
 use Rattle.expand_whens.specs.declared.guard.Part.{Part}
-use Rattle.net_meaning.specs.StatementShapes.{is_condition, some_unsigned}
+use Rattle.ground_net.specs.StatementShapes.{is_condition, some_unsigned}
 use Rattle.expand_whens.specs.Ways.{guard_holds, guard_mentions, guard_fits, meets, is_met, asked_mentions, crossed, crossed_mentions, none_hold, part_holds, part_mentions, part_fits, IsGuard, IsPart, IsBit}
 use Rattle.expand_whens.proofs.Members.{same, same_of, same_through, same_append, swapped}
 use Rattle.expand_whens.proofs.Tests.{left_true, right_true}

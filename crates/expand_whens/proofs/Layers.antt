@@ -3,7 +3,7 @@ use Rattle.std.proofs.Common.{◌≡◌, ℕ, List, [], ◌∷◌, ◌++◌, map
 use Rattle.std.specs.List.{list_all}
 use Rattle.std.proofs.lemmas.Grind.{common_steps}
 use Rattle.bit_words.specs.declared.value.Value.{Value}
-use Rattle.cycle_values.specs.Values.{is_one}
+use Rattle.prim_ops.specs.Values.{is_one}
 use Rattle.ground_net.specs.declared.ground.Ground.{Ground, the_lemmas as ground_lemmas}
 use Rattle.ground_net.specs.declared.ground.Ground.TheVariants.{Mux, Leaf, Const}
 use Rattle.ground_net.specs.declared.circuit.GroundStmt.{GroundStmt, the_lemmas}
@@ -12,8 +12,8 @@ use Rattle.ground_net.specs.declared.circuit.GroundArm.{GroundArm}
 use Rattle.ground_net.specs.Grounds.{Instant, value, mentions, joined}
 use Rattle.ground_net.specs.Statements.{all_hold, effect, driving, live, is_certain}
 use Rattle.ground_net.proofs.Layers.{maps}
-use Rattle.net_meaning.specs.Shapes.{Shape, Table, shape, shape_of_value, shape_of_choice, all_of}
-use Rattle.net_meaning.specs.StatementShapes.{is_condition, is_source, is_shaped_stmt, is_shaped_arm, is_shaped, are_shaped}
+use Rattle.ground_net.specs.Shapes.{Shape, Table, shape, shape_of_value, shape_of_choice, all_of}
+use Rattle.ground_net.specs.StatementShapes.{is_condition, is_source, is_shaped_stmt, is_shaped_arm, is_shaped, are_shaped}
 use Rattle.expand_whens.specs.Walking.{block_effect, arm_effect, arms_effect, driving_arm, arms_live, arms_certain}
 
 pub effect-Connect : (instant : Instant) (leaf target : ℕ) (conditions : List Ground) (source : Ground) (last : Option Value)

@@ -8,10 +8,10 @@ use Rattle.ground_net.specs.declared.ground.Ground.{Ground}
 use Rattle.ground_net.specs.declared.circuit.GroundStmt.{GroundStmt}
 use Rattle.ground_net.specs.declared.circuit.GroundStmt.TheVariants.{Connect, When}
 use Rattle.ground_net.specs.declared.circuit.GroundArm.{GroundArm}
-use Rattle.net_meaning.specs.Shapes.{Table}
+use Rattle.ground_net.specs.Shapes.{Table}
 use Rattle.expand_whens.specs.declared.guard.Asked.{Asked}
 use Rattle.expand_whens.specs.declared.guard.Way.{Way}
-use Rattle.net_meaning.specs.StatementShapes.{is_condition, is_source, is_shaped, is_shaped_stmt, is_shaped_arm, are_shaped}
+use Rattle.ground_net.specs.StatementShapes.{is_condition, is_source, is_shaped, is_shaped_stmt, is_shaped_arm, are_shaped}
 use Rattle.expand_whens.specs.Ways.{asked_fits, guard_fits, way_fits, refusal, refusals, accepted}
 use Rattle.expand_whens.specs.Walking.{Shapes, BlockShapes, ArmsShapes, ways_at}
 use Rattle.expand_whens.proofs.Tests.{left_true, right_true}

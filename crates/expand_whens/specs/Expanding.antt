@@ -13,8 +13,8 @@ use Rattle.ground_net.specs.declared.circuit.DrivenCircuit.{DrivenCircuit}
 use Rattle.ground_net.specs.Grounds.{Instant, value, mentions, joined}
 use Rattle.ground_net.specs.Statements.{drives, live}
 use Rattle.expand_whens.specs.declared.guard.Way.{Way}
-use Rattle.net_meaning.specs.Shapes.{Table, Shape, shaped, shape as shape_in}
-use Rattle.net_meaning.specs.StatementShapes.{is_shaped}
+use Rattle.ground_net.specs.Shapes.{Table, Shape, shaped, shape as shape_in}
+use Rattle.ground_net.specs.StatementShapes.{is_shaped}
 use Rattle.expand_whens.specs.Ways.{outcome, ways_mentions, way_fits}
 
 -- The kind and the width of a leaf.

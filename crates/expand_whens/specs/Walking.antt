@@ -10,8 +10,8 @@ use Rattle.ground_net.specs.Grounds.{Instant, joined}
 use Rattle.ground_net.specs.Statements.{Effect, in_turn, first_holding, all_arms, effect, of_stmt, of_arm, Driving, DrivingArm, driving_of, driving_arm_of, crossing, through_arms, live, is_certain}
 use Rattle.expand_whens.specs.declared.guard.Asked.{Asked}
 use Rattle.expand_whens.specs.declared.guard.Way.{Way}
-use Rattle.net_meaning.specs.Shapes.{Table}
-use Rattle.net_meaning.specs.StatementShapes.{is_shaped, are_shaped}
+use Rattle.ground_net.specs.Shapes.{Table}
+use Rattle.ground_net.specs.StatementShapes.{is_shaped, are_shaped}
 use Rattle.expand_whens.specs.Ways.{asked_fits, way_fits, Same, crossed, crossed_mentions, outcome, ways_mentions}
 
 -- what statements make of the value that was set before them

@@ -5,11 +5,11 @@ use Rattle.bit_words.specs.declared.value.Value.{Value}
 use Rattle.ground_net.specs.declared.ground.Ground.{Ground}
 use Rattle.ground_net.specs.declared.circuit.GroundArm.{GroundArm}
 use Rattle.ground_net.specs.Grounds.{Instant, value, mentions, joined}
-use Rattle.cycle_values.specs.Values.{is_one}
+use Rattle.prim_ops.specs.Values.{is_one}
 use Rattle.ground_net.specs.Statements.{all_hold}
 use Rattle.bit_words.specs.declared.value.Kind.TheVariants.{Unsigned}
-use Rattle.net_meaning.specs.Shapes.{Table, shaped, shape as shape_in}
-use Rattle.net_meaning.specs.StatementShapes.{is_condition, is_source}
+use Rattle.ground_net.specs.Shapes.{Table, shaped, shape as shape_in}
+use Rattle.ground_net.specs.StatementShapes.{is_condition, is_source}
 use Rattle.expand_whens.specs.declared.guard.Asked.{Asked}
 use Rattle.expand_whens.specs.declared.guard.Part.{Part}
 use Rattle.expand_whens.specs.declared.guard.Way.{Way}

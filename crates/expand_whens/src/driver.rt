@@ -6,7 +6,7 @@ ghost use Rattle.ground_net.specs.declared.ground.Ground.TheVariants.{Mux};
 ghost use Rattle.ground_net.specs.declared.circuit.GroundLeaf.{GroundLeaf as TheLeaf};
 ghost use Rattle.ground_net.specs.declared.circuit.GroundRole.TheVariants.{Register};
 ghost use Rattle.ground_net.specs.Grounds.{Instant, value, mentions};
-ghost use Rattle.net_meaning.specs.Shapes.{Table, shape as shape_in};
+ghost use Rattle.ground_net.specs.Shapes.{Table, shape as shape_in};
 ghost use Rattle.expand_whens.specs.Walking.{ways_at};
 ghost use Rattle.expand_whens.specs.Expanding.{HasDrivers, Chooses, IsChoice, IsRest};
 

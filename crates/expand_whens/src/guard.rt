@@ -3,11 +3,11 @@
 ghost use Rattle.std.specs.Prelude.{◌≡◌, ◌<◌, ◌==◌, [], Some, ◌&&◌, ◌∷◌, ◌++◌, IfOk, OnOk, map, reverse, true};
 ghost use Rattle.std.specs.List.{list_all};
 ghost use Rattle.bit_words.specs.declared.value.Kind.TheVariants.{Unsigned};
-ghost use Rattle.cycle_values.specs.Values.{is_one};
+ghost use Rattle.prim_ops.specs.Values.{is_one};
 ghost use Rattle.ground_net.specs.Grounds.{Instant, value, mentions, joined};
 ghost use Rattle.ground_net.specs.Statements.{all_hold};
-ghost use Rattle.net_meaning.specs.Shapes.{Table, shaped, shape as shape_in};
-ghost use Rattle.net_meaning.specs.StatementShapes.{is_condition};
+ghost use Rattle.ground_net.specs.Shapes.{Table, shaped, shape as shape_in};
+ghost use Rattle.ground_net.specs.StatementShapes.{is_condition};
 ghost use Rattle.expand_whens.specs.Ways.{guard_holds, guard_mentions, guard_fits, asked_mentions, asked_fits, is_met, meets, crossed, crossed_mentions, none_hold, part_holds, part_mentions, part_fits, IsGuard, IsPart, IsBit};
 
 use bit_words::{Kind, List, Value};

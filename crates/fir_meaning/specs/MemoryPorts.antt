@@ -12,8 +12,8 @@ use Rattle.fir_types.specs.declared.memory.MemLine.TheVariants as line
 use Rattle.fir_types.specs.declared.memory.PortMode.{PortMode}
 use Rattle.fir_types.specs.declared.memory.PortMode.TheVariants as mode
 use Rattle.fir_types.specs.Memories.{depth_of}
-use Rattle.cycle_values.specs.Ports as port_rules
-use Rattle.cycle_values.specs.Ports.{Held, Shown, set_to_write, set_to_read, after_ports, read_by_port}
+use Rattle.prim_ops.specs.Ports as port_rules
+use Rattle.prim_ops.specs.Ports.{Held, Shown, set_to_write, set_to_read, after_ports, read_by_port}
 use Rattle.fir_types.specs.Bundles.{addr_name, en_name, data_name, mask_name, wmode_name, wdata_name, wmask_name}
 
 -- A port: the number of its name and where that stands, and what it does.

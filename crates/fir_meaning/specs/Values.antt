@@ -18,8 +18,8 @@ use Rattle.fir_types.specs.declared.leaf.PathStep.{PathStep}
 use Rattle.fir_types.specs.declared.leaf.PathStep.TheVariants as step
 use Rattle.fir_types.specs.Leaves.{leaves}
 use Rattle.fir_types.specs.Bundles.{least_reaching}
-pub use Rattle.cycle_values.specs.Values.{fitted, lone, operation, kind_or_unsigned}
-use Rattle.cycle_values.specs.Values.{is_one as is_one_value}
+pub use Rattle.prim_ops.specs.Values.{fitted, lone, operation, kind_or_unsigned}
+use Rattle.prim_ops.specs.Values.{is_one as is_one_value}
 use Rattle.fir_tree.specs.declared.expr.Expr.{Expr, fold-Expr}
 use Rattle.fir_tree.specs.declared.expr.Form.{Form}
 use Rattle.fir_tree.specs.declared.expr.Suffix.{Suffix, fold-Suffix}

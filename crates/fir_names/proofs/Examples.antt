@@ -6,7 +6,7 @@ use Rattle.place_text.specs.declared.place.Place.{Place}
 use Rattle.fir_names.specs.declared.fault.NameFault.TheVariants as kind
 use Rattle.fir_names.specs.Extents.{Seen, Use, refer, declare, followed_by, all_marks, block_marks, uses_behind}
 use Rattle.fir_names.specs.Scopes.{Names, Instance, itself, through}
-use Rattle.fault_order.specs.Order.{Precedes, by_line, by_rank}
+use Rattle.place_text.specs.Order.{Precedes, by_line, by_rank}
 use Rattle.fir_names.specs.Faults.{IsFault, instance_loop, place_of, rank_of}
 use Rattle.fir_names.proofs.Members.{Contains-first}
 

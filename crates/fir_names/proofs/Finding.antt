@@ -5,7 +5,7 @@ use Rattle.std.specs.List.{list_any}
 use Rattle.std.proofs.lemmas.List.{take_more, map-append, length-take-le, nil_from_length}
 use Rattle.std.proofs.lemmas.List.Folds.{list_any-append}
 use Rattle.indexmap.specs.IndexSet.{insert_key}
-use Rattle.key_laws.proofs.Held.{held_key}
+use Rattle.fir_types.proofs.Held.{held_key}
 use Rattle.fir_types.specs.declared.name.Name.{Name}
 use Rattle.place_text.specs.declared.place.Place.{Place}
 use Rattle.fir_names.specs.declared.fault.NameFault.{NameFault}

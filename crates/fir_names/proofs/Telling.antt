@@ -1,6 +1,6 @@
 -- What was found tells all faults.
 use Rattle.std.specs.Prelude.{ℕ}
-use Rattle.fault_order.specs.First.{Tells}
+use Rattle.place_text.specs.First.{Tells}
 use Rattle.fir_tree.specs.declared.circuit.Circuit.{Circuit}
 use Rattle.fir_names.specs.declared.gather.Gathered.{Gathered}
 use Rattle.fir_names.specs.Faults.{IsFault}

@@ -2,7 +2,7 @@
 -- "Scoping").
 use Rattle.std.specs.Prelude.{Contains, ◌≡◌, ℕ, List, ◌∷◌, ◌++◌, Option, Some, None, codes}
 use Rattle.place_text.specs.declared.place.Place.{Place}
-use Rattle.fault_order.specs.First.{IsFirst as IsFirstOf}
+use Rattle.place_text.specs.First.{IsFirst as IsFirstOf}
 use Rattle.fir_types.specs.declared.name.Name.{Name}
 use Rattle.fir_tree.specs.declared.circuit.Circuit.{Circuit}
 use Rattle.fir_tree.specs.declared.circuit.Module.{Module}

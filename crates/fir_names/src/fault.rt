@@ -1,7 +1,6 @@
 //! The reasons to refuse a circuit for its names.
 
-use fault_order::Fault;
-use place_text::Place;
+use place_text::{Fault, Place};
 use std::alloc::AllocError;
 use thiserror::Error;
 

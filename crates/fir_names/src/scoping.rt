@@ -4,7 +4,7 @@ ghost use Rattle.std.specs.Prelude.{◌≡◌, ◌<◌, ◌++◌, ◌↔◌, ℕ
 ghost use Rattle.fir_names.specs.Scopes.{IsScope};
 ghost use Rattle.fir_names.specs.declared.fault.NameFault.TheVariants.{NoMain as No_main};
 ghost use Rattle.fir_names.specs.Faults.{IsFault, place_of, rank_of};
-ghost use Rattle.fault_order.specs.Verdicts.{IsVerdict};
+ghost use Rattle.place_text.specs.Verdicts.{IsVerdict};
 ghost use Rattle.fir_names.specs.Graphs.{IsGraph, Leads};
 ghost use Rattle.fir_names.specs.Walks.{number_in, fault_in};
 ghost use Rattle.fir_names.specs.Finds.{IsFound};
@@ -15,10 +15,10 @@ use crate::graph::reach;
 use crate::loops::push_loops;
 use crate::namespace::Namespace;
 use bit_words::List;
-use fault_order::earliest;
 use fir_tree::{Circuit, Module, Scope};
 use fir_types::Name;
 use indexmap::IndexMap;
+use place_text::earliest;
 use std::alloc::{AllocError, Global};
 
 /// What the names of a circuit mean, or its first fault by place, and at one place by kind (FIRRTL specification 3.0,

@@ -17,11 +17,11 @@ use Rattle.fir_tree.specs.declared.fault.ParseFault.TheVariants.{BadVersion}
 use Rattle.fir_grammar.specs.Grammar.{The_mark, A_number, A_major, Takes, Nothing, Its_magnitude, Is, mark, no_symbol, a_magnitude}
 use Rattle.fir_grammar.specs.Faults.{Levels, past, is_deep, last_suffixes, with_suffix, most}
 use Rattle.fir_expr.specs.declared.reader.Reader.{Reader}
-use Rattle.line_parser.specs.Taking.{here, blocks_at, StandsAt, HasTaken, Steps}
-use Rattle.line_parser.specs.Expected.{Meets, NamesHere}
+use Rattle.fir_parser.specs.Taking.{here, blocks_at, StandsAt, HasTaken, Steps}
+use Rattle.fir_parser.specs.Expected.{Meets, NamesHere}
 use Rattle.fir_parser.specs.Heads.{VersionRefused, no_number, other_number}
-use Rattle.line_parser.proofs.Steps.{Quiets, quiets, stands_next, here_next, left_tokens, last_afresh, taken_flat}
-use Rattle.line_parser.proofs.Joins.{joins}
+use Rattle.fir_parser.proofs.Steps.{Quiets, quiets, stands_next, here_next, left_tokens, last_afresh, taken_flat}
+use Rattle.fir_parser.proofs.Joins.{joins}
 
 dot_is : (p : Piece) → Takes (The_mark 46) p → (bytes : List ℕ) × (A_token (kind.Mark 46) bytes ≡ p)
 dot_is (A_token (kind.Mark m) bytes) h = (bytes, ap (λ (n : ℕ). A_token (kind.Mark n) bytes) (sym h))

@@ -11,11 +11,11 @@ use Rattle.item_lines.specs.declared.line.LineModule.{LineModule as TheModule}
 use Rattle.fir_grammar.specs.Grammar.{The_word, Opens, Closes, Symbol, Is, A, Nothing, Modules, Module, Ports, Port, Statements, Type_of, name, colon, line_end, close_block, IsCase, no_modules, a_module, a_public_module, no_module_body, last_module, next_module, next_port, last_port, an_input, an_output, Values, tree, Spells, no_symbol, a_rule}
 use Rattle.fir_expr.specs.declared.reader.Reader.{Reader}
 use Rattle.token_reader.proofs.Composition.{Enters}
-use Rattle.line_parser.specs.Taking.{pieces, HasTaken, Refuses}
-use Rattle.line_parser.specs.Expected.{Meets}
-use Rattle.line_parser.proofs.Joins.{joins, first, later, makes, breaks}
-use Rattle.line_parser.proofs.Entering.{enters_word, enters_part, enters_close, not_closes, not_opens, not_word}
-use Rattle.line_parser.proofs.Loops.{Continues, has_piece, shorter, drops_move}
+use Rattle.fir_parser.specs.Taking.{pieces, HasTaken, Refuses}
+use Rattle.fir_parser.specs.Expected.{Meets}
+use Rattle.fir_parser.proofs.Joins.{joins, first, later, makes, breaks}
+use Rattle.fir_parser.proofs.Entering.{enters_word, enters_part, enters_close, not_closes, not_opens, not_word}
+use Rattle.fir_parser.proofs.Loops.{Continues, has_piece, shorter, drops_move}
 use Rattle.fir_parser.specs.Heads.{BeginsPort, side_of}
 
 -- which case goes on

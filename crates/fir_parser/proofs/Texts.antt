@@ -10,11 +10,11 @@ use Rattle.fir_types.specs.declared.name.Name.{Name}
 use Rattle.item_lines.specs.declared.line.LineModule.{LineModule}
 use Rattle.fir_expr.specs.declared.reader.Reader.{Reader}
 use Rattle.token_reader.specs.Standing.{IsLaidFrom}
-use Rattle.line_parser.specs.Taking.{pieces, here, StandsAt, HasTaken, Refuses, InBlocks}
+use Rattle.fir_parser.specs.Taking.{pieces, here, StandsAt, HasTaken, Refuses, InBlocks}
 use Rattle.token_reader.proofs.Composition.{Enters, piece_at, read_case, read_then}
-use Rattle.line_parser.proofs.Joins.{joins, first, later, breaks}
-use Rattle.line_parser.proofs.Entering.{enters_part}
-use Rattle.line_parser.specs.Expected.{Meets}
+use Rattle.fir_parser.proofs.Joins.{joins, first, later, breaks}
+use Rattle.fir_parser.proofs.Entering.{enters_part}
+use Rattle.fir_parser.specs.Expected.{Meets}
 use Rattle.fir_parser.specs.Heads.{WordsStand, VersionRefused, no_number, other_number, IsTextRead}
 use Rattle.fir_grammar.proofs.Fronts.{Front-taken, Front-entered}
 use Rattle.fir_grammar.proofs.Follows.{settled_case}

@@ -8,7 +8,7 @@ use Rattle.item_lines.specs.declared.line.LineModule.{LineModule}
 use Rattle.fir_grammar.specs.Grammar.{A, Is, Its_magnitude, The_word, A_number, A_major, Text, start_of}
 use Rattle.fir_grammar.specs.Reading.{HasRead, IsRefused}
 use Rattle.fir_expr.specs.declared.reader.Reader.{Reader}
-use Rattle.line_parser.specs.Expected.{Meets, MeetsNext}
+use Rattle.fir_parser.specs.Expected.{Meets, MeetsNext}
 
 -- `input` or `output` stands at the reader's place
 abbrev pub BeginsPort : Reader → Type 0

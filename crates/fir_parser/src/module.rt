@@ -2,18 +2,18 @@
 
 ghost use Rattle.std.specs.Prelude.{◌≡◌, [], ◌∷◌, codes, MatchBool};
 ghost use Rattle.fir_grammar.specs.Grammar.{A, The_word, Circuit_body, Modules, Module, Module_body, Ports, Port, word, name, colon, line_end};
-ghost use Rattle.line_parser.specs.Taking.{StandsAt, InBlocks, Reads, ReadsAll, ReadsToEnd};
-ghost use Rattle.line_parser.specs.Expected.{Meets};
+ghost use Rattle.fir_parser.specs.Taking.{StandsAt, InBlocks, Reads, ReadsAll, ReadsToEnd};
+ghost use Rattle.fir_parser.specs.Expected.{Meets};
 ghost use Rattle.fir_parser.specs.Heads.{BeginsPort, side_of};
 
+use crate::block::read_statements;
+use crate::header::{read_named, read_typed};
+use crate::symbols::{Expected, meets, take, take_close, take_open};
 use bit_words::List;
 use fir_expr::Reader;
 use fir_tree::ParseFault;
 use fir_types::Port as ModulePort;
 use item_lines::{Line, LineModule};
-use line_parser::{
-    Expected, meets, read_named, read_statements, read_typed, take, take_close, take_open,
-};
 use std::alloc::Global;
 
 /// The modules of a circuit in their block, or none where no block stands.

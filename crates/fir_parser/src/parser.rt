@@ -8,11 +8,13 @@ ghost use Rattle.fir_tree.specs.declared.fault.ParseFault.{ParseFault as TheFaul
 ghost use Rattle.fir_tree.specs.declared.fault.ParseFault.TheVariants.{NoMemory};
 ghost use Rattle.fir_tree.specs.declared.circuit.Circuit.{Circuit as TheCircuit};
 ghost use Rattle.token_reader.specs.Standing.{IsLaidFrom};
-ghost use Rattle.line_parser.specs.Taking.{InBlocks, HasTaken, Refuses};
+ghost use Rattle.fir_parser.specs.Taking.{InBlocks, HasTaken, Refuses};
 ghost use Rattle.fir_parser.specs.Heads.{IsTextRead};
 ghost use Rattle.fir_parser.specs.Reading.{is_apart};
 
+use crate::header::read_named;
 use crate::module::read_circuit_body;
+use crate::symbols::{Expected, take};
 use crate::version::{read_numbers, read_words, take_major};
 use bit_words::List;
 use fir_expr::Reader;
@@ -20,7 +22,6 @@ use fir_layout::Laid;
 use fir_tree::{Circuit, Names, ParseFault};
 use fir_types::Name;
 use item_lines::LineModule;
-use line_parser::{Expected, read_named, take};
 use line_stmts::stand;
 use std::alloc::Global;
 

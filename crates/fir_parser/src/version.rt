@@ -4,13 +4,13 @@ ghost use Rattle.std.specs.Prelude.{◌≡◌, ◌⊎◌, ◌+◌, ◌-◌, ◌<
 ghost use Rattle.fir_grammar.specs.Grammar.{Is, Nothing, Its_magnitude, A_major, A_number, The_mark, word, mark, line_end};
 ghost use Rattle.fir_grammar.specs.Faults.{most, last_suffixes};
 ghost use Rattle.token_reader.specs.Standing.{IsLaidFrom};
-ghost use Rattle.line_parser.specs.Taking.{StandsAt, HasTaken, Refuses, ReadsAll, Steps, blocks_at, here};
-ghost use Rattle.line_parser.specs.Expected.{Meets};
+ghost use Rattle.fir_parser.specs.Taking.{StandsAt, HasTaken, Refuses, ReadsAll, Steps, blocks_at, here};
+ghost use Rattle.fir_parser.specs.Expected.{Meets};
 ghost use Rattle.fir_parser.specs.Heads.{VersionRefused, WordsStand};
 
+use crate::symbols::{Expected, advance, fault_here, meets, take};
 use fir_expr::Reader;
 use fir_tree::ParseFault;
-use line_parser::{Expected, advance, fault_here, meets, take};
 
 /// The words before the version's numbers.
 pub fn read_words(reader: &mut Reader) -> Result<(), ParseFault>

@@ -11,3 +11,4 @@ pub mod Runs
 pub mod Singles
 pub mod Places
 pub mod SpotLayers
+pub mod Held

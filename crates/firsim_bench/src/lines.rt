@@ -1,7 +1,6 @@
-//! The words of a line that asks for a timing, and how an answer is written.
+//! The words of a line that asks for a timing.
 
 use std::env;
-use std::fmt::Display;
 use std::str::{FromStr, SplitWhitespace};
 
 /// The words of a line that are not read yet.
@@ -30,17 +29,6 @@ impl<'a> Words<'a> {
     {
         self.word()?.parse().ok()
     }
-
-    /// Reads the name of what stands in a table.
-    pub fn named<T: Copy>(&mut self, table: &[(&str, T)]) -> Option<T> {
-        let word = self.word()?;
-        for (name, found) in table {
-            if *name == word {
-                return Some(*found);
-            }
-        }
-        None
-    }
 }
 
 /// The words of the command line behind the program's name, with a blank behind each.
@@ -53,9 +41,4 @@ pub fn line_of(rt: &HostRuntime) -> Option<String> {
         line.push_str(" ").ok()?;
     }
     Some(line)
-}
-
-/// Writes an answer as a line.
-pub fn tell<T: Display + Drop>(rt: &HostRuntime, answer: T) -> Option<()> {
-    println!(rt; "{answer}").ok()
 }

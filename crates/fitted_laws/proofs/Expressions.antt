@@ -62,8 +62,8 @@ use Rattle.width_fit.specs.declared.fault.WidthFault.TheVariants.{ParameterRange
 use Rattle.type_filling.specs.Filling.{filled}
 use Rattle.width_fit.specs.Judging as judging
 use Rattle.width_fit.specs.Judging.{Survey, survey, surveyed, slot_width, widths_of, is_over, where_, lone_width, fit_width, parameter_faults, choice_faults}
-use Rattle.cycle_values.specs.Shapes as rows
-use Rattle.cycle_values.specs.Shapes.{Shape, shaped, all_of, is_row, params_fit, width_of_row, shape_of_row}
+use Rattle.prim_ops.specs.Shapes as rows
+use Rattle.prim_ops.specs.Shapes.{Shape, shaped, all_of, is_row, params_fit, width_of_row, shape_of_row}
 use Rattle.fir_meaning.specs.Values as meaning
 use Rattle.fir_meaning.specs.Values.{field_of_shape, element_of_shape, vector_length}
 use Rattle.fir_meaning.specs.WellTyped as typing

@@ -31,7 +31,7 @@ use Rattle.width_rules.specs.Solutions.{IsWidth}
 use Rattle.width_rules.proofs.Bounds.{Each}
 use Rattle.type_filling.specs.Filling.{Taking, taking, filled, number, first_number, behind_first}
 use Rattle.type_filling.specs.Layers.{shape_taking, field_taking, fields_taking}
-use Rattle.cycle_values.specs.Shapes.{Shape as ValueShape, shaped}
+use Rattle.prim_ops.specs.Shapes.{Shape as ValueShape, shaped}
 use Rattle.fir_meaning.specs.Components.{width_or_none}
 use Rattle.fir_meaning.specs.WellTyped.{leaf_shape, wider_each, wider, is_narrow}
 use Rattle.fir_names.proofs.Graphs.{some_same}

@@ -13,7 +13,7 @@ use Rattle.fir_tree.specs.declared.stmt.Arm.{Arm, fold-Arm}
 use Rattle.fir_tree.specs.declared.stmt.Stmt.TheOpen.{Stmt-F, Arm-F}
 use Rattle.fir_tree.specs.declared.stmt.Stmt.TheFolds.{map-Stmt, map-Arm, fold-roll-Stmt, fold-roll-Arm}
 use Rattle.fir_tree.specs.declared.stmt.Stmt.TheViews.{roll-Stmt, roll-Arm}
-use Rattle.cycle_values.specs.Shapes.{Shape, is_unsigned}
+use Rattle.prim_ops.specs.Shapes.{Shape, is_unsigned}
 use Rattle.width_rules.specs.declared.rule.Formula.{Formula}
 use Rattle.width_rules.specs.Formulas.{level, width_under}
 use Rattle.width_rules.specs.Sources.{Measured, lone}

@@ -1,6 +1,6 @@
 -- Circuits that the checks let pass: what the contracts of the checks of names, types and widths say of one.
 use Rattle.std.specs.Prelude.{◌≡◌, true}
-use Rattle.fault_order.specs.First.{HasNone}
+use Rattle.place_text.specs.First.{HasNone}
 use Rattle.fir_tree.specs.declared.scope.Fitted.{Fitted}
 use Rattle.fir_names.specs.Scopes.{IsScope}
 use Rattle.fir_names.specs.Faults.{IsFault as IsNameFault}

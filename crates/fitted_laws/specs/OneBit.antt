@@ -5,7 +5,7 @@ use Rattle.std.specs.List.{list_all}
 use Rattle.fir_tree.specs.declared.expr.Expr.{Expr}
 use Rattle.fir_tree.specs.declared.stmt.Stmt.{Stmt, fold-Stmt}
 use Rattle.fir_tree.specs.declared.stmt.Stmt.TheOpen.{Stmt-F, Arm-F}
-use Rattle.cycle_values.specs.Shapes.{Shape, is_unsigned}
+use Rattle.prim_ops.specs.Shapes.{Shape, is_unsigned}
 use Rattle.fir_meaning.specs.WellTyped.{Known, typed}
 
 abbrev pub one_bit : Option (List Shape) → Bool

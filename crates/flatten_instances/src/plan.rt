@@ -3,7 +3,7 @@
 ghost use Rattle.std.specs.Prelude.{◌≡◌, [], ◌∷◌, ◌++◌, slice_get, slice_index, Some, IsSome, IfOk, if◌then◌else◌};
 
 use bit_words::{List, Text};
-use ground_net::{DrivenCircuit, DrivenModule};
+use ground_net::{DrivenCircuit, DrivenModule, NewNumbers};
 use std::alloc::{AllocError, Global};
 
 /// A module at a path of instances.
@@ -43,7 +43,7 @@ pub struct MemorySite {
 #[derive(Drop)]
 pub struct Plan {
     pub levels: List<Level>,
-    pub tables: List<List<u32>>,
+    pub tables: List<NewNumbers>,
     pub leaves: List<Site>,
     pub memories: List<MemorySite>,
 }
@@ -93,11 +93,11 @@ pub fn level_of(plan: &Plan, number: u32) -> &Level
 }
 
 /// The flat numbers of the leaves of a level's module.
-pub fn table_of(plan: &Plan, number: u32) -> &[u32]
+pub fn table_of(plan: &Plan, number: u32) -> &NewNumbers
     requires { IsSome (slice_get plan.now.tables number) }
     ensures { slice_get plan.now.tables number ≡ Some result.now }
 {
-    plan.tables.as_slice()[number as usize].as_slice()
+    &plan.tables.as_slice()[number as usize]
 }
 
 /// The flat number of a leaf; a leaf without one gets the number 0.

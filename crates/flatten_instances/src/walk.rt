@@ -8,7 +8,7 @@ ghost use Rattle.flatten_instances.specs.Plans.{IsSound, Begins, IsLevel, Visits
 
 use crate::plan::{Holder, Level, MemorySite, Plan, Site, joined_text, module_of, number_of};
 use bit_words::List;
-use ground_net::{DrivenCircuit, DrivenModule, GroundInstance};
+use ground_net::{DrivenCircuit, DrivenModule, GroundInstance, NewNumbers};
 use std::alloc::{AllocError, Global};
 
 /// Where a walk through the module of a level stands: behind the leaves that have numbers, and so many memories and instances.
@@ -71,7 +71,7 @@ fn visit(
     'on: while !is_done(owner, &walk) {
         step(alloc, driven, owner, &mut walk, plan)?;
     }
-    finish(walk, plan);
+    finish(alloc, walk, plan)?;
     Ok(())
 }
 
@@ -164,17 +164,19 @@ fn begin(alloc: Global, level: Level, plan: &mut Plan) -> Result<(), AllocError>
     ensures { OnOk result (plan.new ≡ record plan.old { levels = plan.old.levels ++ level ∷ []; tables = plan.old.tables ++ [] ∷ [] }) }
 {
     plan.levels.push(level)?;
-    plan.tables.push(List::new(alloc))?;
+    plan.tables.push(NewNumbers::new(alloc, List::new(alloc))?)?;
     Ok(())
 }
 
 /// Keeps the flat numbers of a level.
-fn finish(walk: Walk, plan: &mut Plan)
+fn finish(alloc: Global, walk: Walk, plan: &mut Plan) -> Result<(), AllocError>
     requires { walk.level < length plan.old.tables }
-    ensures { plan.new ≡ record plan.old { tables = slice_set plan.old.tables walk.level walk.numbers } }
+    ensures { OnOk result (plan.new ≡ record plan.old { tables = slice_set plan.old.tables walk.level walk.numbers }) }
 {
     let Walk { level, numbers, .. } = walk;
-    plan.tables.set(level as usize, numbers);
+    plan.tables
+        .set(level as usize, NewNumbers::new(alloc, numbers)?);
+    Ok(())
 }
 
 /// Takes the memory that stands next.

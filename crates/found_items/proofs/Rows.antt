@@ -14,10 +14,10 @@ use Rattle.lower_aggregates.specs.declared.declarations.Sort.TheVariants as sort
 use Rattle.lower_aggregates.specs.Parts.{component_part, component_parts}
 use Rattle.lower_aggregates.specs.Held.{held_sort}
 use Rattle.lower_aggregates.specs.Instances.{Numbers}
-use Rattle.item_leaves.specs.declared.table.Row.{Row}
-use Rattle.item_leaves.specs.declared.table.Makes.{Makes}
-use Rattle.item_leaves.specs.declared.table.Makes.TheVariants as makes
-use Rattle.item_leaves.specs.Tables.{MadeBy, IsRow}
+use Rattle.found_items.specs.declared.table.Row.{Row}
+use Rattle.found_items.specs.declared.table.Makes.{Makes}
+use Rattle.found_items.specs.declared.table.Makes.TheVariants as makes
+use Rattle.found_items.specs.Tables.{MadeBy, IsRow}
 use Rattle.found_items.specs.PieceRows.{MadeOf, IsRowOf}
 
 module _ (circuit : Circuit) (numbers : Numbers) (means : (name number : ℕ) → lookup (nat_eq name) numbers ≡ Some number → Means circuit name number) where

@@ -6,9 +6,9 @@ use Rattle.fir_types.specs.Leaves.{leaves}
 use Rattle.fir_meaning.specs.Components.{target_in}
 use Rattle.lower_aggregates.specs.Parts.{Part}
 use Rattle.lower_aggregates.specs.Instances.{Numbers}
-use Rattle.item_leaves.specs.declared.table.Row.{Row}
-use Rattle.item_leaves.specs.declared.table.Makes.{Makes}
-use Rattle.item_leaves.specs.declared.table.Makes.TheVariants as makes
+use Rattle.found_items.specs.declared.table.Row.{Row}
+use Rattle.found_items.specs.declared.table.Makes.{Makes}
+use Rattle.found_items.specs.declared.table.Makes.TheVariants as makes
 
 -- so many leaves, or an instance of the module that has this number by its name
 abbrev pub MadeOf : Numbers → Part → Makes → Type 0

@@ -1,30 +1,32 @@
 //! What is known of the modules of a fitted circuit, and the items of its run.
 
-ghost use Rattle.std.specs.Prelude.{◌≡◌, ℕ, ◌<◌, ◌↔◌, [], All, List as Listed, Some, map, length, slice_get, nat_eq, is_some, true, IfOk, OnOk};
-ghost use Rattle.std.specs.Map.{lookup};
+ghost use Rattle.std.specs.Prelude.{◌≡◌, ℕ, ◌<◌, [], All, List as Listed, Some, map, length, IfOk};
 ghost use Rattle.std.specs.List.{AllZip};
-ghost use Rattle.fir_meaning.specs.Components.{TypedModule, design_of, module_named, declarations_of as all_declarations};
+ghost use Rattle.fir_meaning.specs.Components.{TypedModule, design_of, module_named};
 ghost use Rattle.fir_names.specs.Scopes.{module_names};
 ghost use Rattle.circuit_laws.specs.WellFormed.{IsWellFormed};
 ghost use Rattle.net_of_circuit.specs.FlatOrder.{Placed, InFlatOrder, all_leaves};
-ghost use Rattle.print_laws.specs.Printing.{PathItem};
-ghost use Rattle.log_laws.specs.RunItems.{AreItems};
-ghost use Rattle.lower_aggregates.specs.Circuits.{IsPlaced, with_new, StandsFrom};
+ghost use Rattle.print_stop.specs.Printing.{PathItem};
+ghost use Rattle.print_stop.specs.RunItems.{AreItems};
+ghost use Rattle.lower_aggregates.specs.Circuits.{IsPlaced, StandsFrom};
 ghost use Rattle.lower_aggregates.specs.Held.{held_sort, held_part};
 ghost use Rattle.lower_aggregates.specs.Instances.{IsMade};
-ghost use Rattle.item_leaves.specs.Finding.{HasItems, IsFound};
-ghost use Rattle.item_leaves.specs.Tables.{AreRows, AreRowsAt};
+ghost use Rattle.found_items.specs.Finding.{HasItems, IsFound};
+ghost use Rattle.found_items.specs.Tables.{AreRows, AreRowsAt};
 ghost use Rattle.found_items.specs.PieceRows.{AreRowsOf, IsRowOf};
 
+use crate::found::ItemAt;
+use crate::naming;
+use crate::owned::owned;
+use crate::table::{Makes, Row, Table};
+use crate::walk::items_of;
 use bit_words::List;
 use circuit_laws::laws::{modules_are_named, reached_modules_stand_at_paths};
-use fir_tree::{Fitted, Module};
+use fir_tree::Fitted;
 use fir_types::FirType;
 use indexmap::IndexMap;
-use item_leaves::owned::owned;
-use item_leaves::{ItemAt, Makes, Row, Table, items_of, naming};
-use lower_aggregates::declarations::declarations_of;
 use lower_aggregates::ground_tables::pieces_are_components;
+use lower_aggregates::lowering::{count_of, is_reached, number_of, numbers_of};
 use lower_aggregates::pieces::leaf_number;
 use lower_aggregates::{Piece, Sort, pieces_of};
 use std::alloc::{AllocError, Global};
@@ -35,7 +37,7 @@ use std::alloc::{AllocError, Global};
 pub fn found_items(alloc: Global, fitted: &Fitted) -> Result<List<ItemAt>, AllocError>
     requires formed { IsWellFormed fitted.now }
     requires items { HasItems fitted.now.checked.resolved.names (design_of fitted.now) fitted.now.checked.resolved.prints }
-    ensures { IfOk result (λ found. (m : TypedModule) (placed : Listed Placed) → module_named (design_of fitted.now) fitted.now.checked.resolved.main.id ≡ Some m → InFlatOrder (design_of fitted.now) [] m m.components placed
+    ensures { IfOk result (λ found. (m : TypedModule) (placed : Listed Placed) → module_named (design_of fitted.now) fitted.now.checked.resolved.main.id ≡ Some m → InFlatOrder (design_of fitted.now) [] m m.components placed → length (all_leaves placed) < 4294967296
         → (items : Listed PathItem) × AreItems fitted.now.checked.resolved.names (design_of fitted.now) fitted.now.checked.resolved.prints items
         × AllZip (IsFound fitted.now.checked.resolved.names (design_of fitted.now) fitted.now.checked.resolved.prints (all_leaves placed)) items found) }
 {
@@ -55,49 +57,6 @@ pub fn found_items(alloc: Global, fitted: &Fitted) -> Result<List<ItemAt>, Alloc
     };
     let found = items_of(alloc, &table, main)?;
     Ok(found)
-}
-
-/// The numbers of modules by their names, of each name the first.
-fn numbers_of(alloc: Global, modules: &[Module]) -> Result<IndexMap<u32, u32>, AllocError>
-    ensures { IfOk result (λ numbers. IsPlaced (map (λ m. m.name) modules.now) numbers.entries) }
-{
-    let mut numbers = IndexMap::new(alloc);
-    for number in 0..modules.len() {
-        insert_new(&mut numbers, modules[number].name.id, number)?;
-    }
-    Ok(numbers)
-}
-
-/// Notes the number of a name, unless there is one.
-fn insert_new(numbers: &mut IndexMap<u32, u32>, id: u32, number: usize) -> Result<(), AllocError>
-    ensures { OnOk result (numbers.new.entries ≡ with_new numbers.old.entries id number) }
-{
-    let place = as_number(number)?;
-    if numbers.get(&id).is_none() {
-        numbers.insert(id, place)?;
-    }
-    Ok(())
-}
-
-/// A number of a module; where a `u32` doesn't hold it, memory is wanted.
-fn as_number(number: usize) -> Result<u32, AllocError>
-    ensures { IfOk result (λ place. place ≡ number) }
-{
-    match u32::try_from(number) {
-        Ok(place) => Ok(place),
-        Err(_) => Err(AllocError),
-    }
-}
-
-/// The number of a module.
-fn number_of(numbers: &IndexMap<u32, u32>, name: u32) -> u32
-    requires { is_some (lookup (nat_eq name) numbers.now.entries) ≡ true }
-    ensures { lookup (nat_eq name) numbers.now.entries ≡ Some result }
-{
-    let Some(number) = numbers.get(&name) else {
-        unreachable!();
-    };
-    *number
 }
 
 /// The components of each module that main reaches.
@@ -120,15 +79,6 @@ fn rows_of(
         rest = rest.get(count..).unwrap_or(&[]);
     }
     Ok(rows)
-}
-
-/// How many declarations a module has.
-fn count_of(alloc: Global, holder: &Module) -> Result<usize, AllocError>
-    ensures { IfOk result (λ count. count ≡ length (all_declarations holder.now)) }
-{
-    pieces_are_components();
-    let all = declarations_of(alloc, holder)?;
-    Ok(all.len())
 }
 
 /// The components of the module of a number, where main reaches it, and these are the types of the modules from there on.
@@ -155,16 +105,6 @@ fn rows_at(
     let pieces = pieces_of(alloc, holder, types)?;
     let rows = rows_of_pieces(alloc, numbers, pieces.as_slice())?;
     Ok(rows)
-}
-
-/// Whether main reaches the module of a number.
-fn is_reached(reached: &[bool], number: usize) -> bool
-    ensures { (result ≡ true) ↔ (slice_get reached.now number ≡ Some true) }
-{
-    match reached.get(number) {
-        Some(flag) => *flag,
-        None => false,
-    }
 }
 
 /// The components that pieces are, where modules have these numbers by their names.

@@ -15,7 +15,7 @@ use Rattle.fir_tree.specs.declared.expr.Suffix.{Suffix}
 use Rattle.fir_tree.specs.declared.expr.Form.TheVariants as form
 use Rattle.fir_tree.specs.declared.expr.Form.TheOpen.{Form-F}
 use Rattle.ground_net.specs.declared.ground.Ground.TheVariants.{Op}
-use Rattle.net_meaning.specs.Shapes.{shape_of_row}
+use Rattle.ground_net.specs.Shapes.{shape_of_row}
 use Rattle.fir_meaning.specs.WellTyped as kinds
 use Rattle.fir_meaning.specs.WellTyped.{typed}
 use Rattle.fir_meaning.specs.Values as tree

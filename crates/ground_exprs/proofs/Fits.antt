@@ -8,14 +8,14 @@ use Rattle.bit_words.specs.declared.value.Kind.TheVariants.{Unsigned}
 use Rattle.bit_words.specs.declared.value.Value.{Value}
 use Rattle.bit_words.specs.Values.{integer_of}
 use Rattle.fir_types.specs.declared.leaf.TypeLeaf.{TypeLeaf}
-use Rattle.cycle_values.specs.Values.{fitted}
-use Rattle.cycle_values.proofs.Fittings.{refitted}
+use Rattle.prim_ops.specs.Values.{fitted}
+use Rattle.prim_ops.proofs.Fittings.{refitted}
 use Rattle.ground_net.specs.declared.ground.Ground.{Ground}
 use Rattle.ground_net.specs.declared.ground.Ground.TheVariants.{Fit}
 use Rattle.ground_net.specs.Grounds.{Instant, value, mentions}
 use Rattle.ground_net.proofs.Layers.{value-Fit, mentions-Fit}
-use Rattle.net_meaning.specs.Shapes.{Shape, shaped, shape_of_value, Table, shape, all_of, shape_of_fit}
-use Rattle.net_meaning.proofs.Shaping.{shape-Fit, shapes_hold}
+use Rattle.ground_net.specs.Shapes.{Shape, shaped, shape_of_value, Table, shape, all_of, shape_of_fit}
+use Rattle.ground_net.proofs.Shaping.{shape-Fit, shapes_hold}
 use Rattle.fir_meaning.specs.Components.{kind_of_leaf, width_of_leaf}
 use Rattle.ground_exprs.specs.declared.part.Pick.{Pick}
 use Rattle.ground_exprs.specs.Parts.{choices, are_indices, is_nowhere, IsRead}

@@ -19,7 +19,7 @@ use Rattle.fir_meaning.specs.Values.{field_of_shape, element_of_shape, vector_le
 use Rattle.ground_exprs.specs.Numbers.{IsInside, narrow_field}
 use Rattle.fir_meaning.specs.WellTyped.{is_narrow}
 use Rattle.ground_exprs.specs.Fields.{leaves_before}
-use Rattle.net_meaning.proofs.Shaping.{both_true}
+use Rattle.ground_net.proofs.Shaping.{both_true}
 use Rattle.ground_exprs.proofs.Members.{none_some, some_same}
 
 pub get_behind : {A : Type 0} (xs ys : List A) (n j : ℕ) (y : A) → length xs ≡ n → slice_get ys j ≡ Some y → slice_get (xs ++ ys) (n + j) ≡ Some y

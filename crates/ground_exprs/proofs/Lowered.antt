@@ -19,9 +19,9 @@ use Rattle.fir_tree.specs.declared.expr.Expr.{Expr}
 use Rattle.fir_tree.specs.declared.expr.Suffix.{Suffix}
 use Rattle.fir_tree.specs.declared.expr.Suffix.TheVariants as suffix
 use Rattle.fir_tree.specs.declared.expr.Form.TheOpen.{Form-F}
-use Rattle.cycle_values.specs.Values.{lone}
+use Rattle.prim_ops.specs.Values.{lone}
 use Rattle.ground_net.specs.Grounds.{Instant, value, mentions}
-use Rattle.net_meaning.specs.Shapes.{Shape, shape, is_unsigned}
+use Rattle.ground_net.specs.Shapes.{Shape, shape, is_unsigned}
 use Rattle.fir_meaning.specs.Components.{Leaf}
 use Rattle.fir_meaning.specs.WellTyped as kinds
 use Rattle.fir_meaning.specs.WellTyped.{Known, InKnown, Onward, typed, leaf_shape, type_behind, is_one_unsigned, lone_shape}

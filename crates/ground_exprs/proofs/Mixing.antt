@@ -8,12 +8,12 @@ use Rattle.bit_words.specs.declared.value.Kind.TheVariants.{Unsigned, Signed}
 use Rattle.bit_words.specs.Values.{integer_of}
 use Rattle.fir_tree.specs.declared.expr.Expr.{Expr}
 use Rattle.fir_tree.specs.declared.expr.Form.TheOpen.{Form-F}
-use Rattle.cycle_values.specs.Values.{fitted, lone, is_one}
+use Rattle.prim_ops.specs.Values.{fitted, lone, is_one}
 use Rattle.ground_net.specs.declared.ground.Ground.{Ground}
 use Rattle.ground_net.specs.Grounds.{Instant, value, mentions, chosen}
 use Rattle.ground_net.proofs.Layers.{value-Mux, mentions-Mux}
-use Rattle.net_meaning.specs.Shapes.{Shape, shaped, Table, HasShapes, shape, same_kind, is_unsigned, all_of, shape_of_choice}
-use Rattle.net_meaning.proofs.Shaping.{shape-Mux, shapes_hold, and_then, if_some}
+use Rattle.ground_net.specs.Shapes.{Shape, shaped, Table, HasShapes, shape, same_kind, is_unsigned, all_of, shape_of_choice}
+use Rattle.ground_net.proofs.Shaping.{shape-Mux, shapes_hold, and_then, if_some}
 use Rattle.fir_meaning.specs.Components.{Leaf}
 use Rattle.fir_meaning.specs.WellTyped as kinds
 use Rattle.fir_meaning.specs.WellTyped.{Known, typed, is_one_unsigned, wider, wider_each}

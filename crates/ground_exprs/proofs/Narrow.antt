@@ -16,7 +16,7 @@ use Rattle.fir_types.specs.declared.leaf.PathStep.{PathStep}
 use Rattle.fir_types.specs.declared.leaf.PathStep.TheVariants as step
 use Rattle.fir_types.specs.Leaves.{leaves, field_leaves, shape_leaves, elements, under}
 use Rattle.fir_meaning.specs.Components.{width_of_leaf}
-use Rattle.net_meaning.proofs.Shaping.{both_true}
+use Rattle.ground_net.proofs.Shaping.{both_true}
 use Rattle.ground_exprs.specs.Numbers.{narrow_field}
 use Rattle.fir_meaning.specs.WellTyped.{is_narrow, narrow_layer}
 

@@ -11,7 +11,7 @@ use Rattle.fir_types.specs.declared.leaf.PathStep.{PathStep}
 use Rattle.fir_types.specs.declared.leaf.PathStep.TheVariants as step
 use Rattle.fir_types.specs.Leaves.{under}
 use Rattle.ground_net.specs.Grounds.{Instant, value, mentions}
-use Rattle.net_meaning.specs.Shapes.{HasShapes}
+use Rattle.ground_net.specs.Shapes.{HasShapes}
 use Rattle.fir_meaning.specs.Components.{Leaf}
 use Rattle.fir_meaning.specs.Values.{Spot, part_of, further, element_step}
 use Rattle.fir_meaning.specs.Mentions.{Region, behind_each, elements_behind}

@@ -9,13 +9,13 @@ use Rattle.prim_ops.specs.declared.operation.PrimOp.{PrimOp}
 use Rattle.fir_tree.specs.declared.expr.Expr.{Expr}
 use Rattle.fir_tree.specs.declared.expr.Form.TheVariants as form
 use Rattle.fir_tree.specs.declared.expr.Form.TheOpen.{Form-F}
-use Rattle.cycle_values.specs.Values.{lone, operation}
+use Rattle.prim_ops.specs.Values.{lone, operation}
 use Rattle.ground_net.specs.declared.ground.Ground.TheVariants.{Op}
 use Rattle.ground_net.specs.Grounds.{Instant, value, mentions, chosen}
 use Rattle.ground_net.specs.Grounds as nets
 use Rattle.ground_net.proofs.Layers.{all_mentions, maps, value-Op, mentions-Op}
-use Rattle.net_meaning.specs.Shapes.{Shape, Table, HasShapes, shape, all_of, shape_of_row}
-use Rattle.net_meaning.proofs.Shaping.{shape-Op, both_true}
+use Rattle.ground_net.specs.Shapes.{Shape, Table, HasShapes, shape, all_of, shape_of_row}
+use Rattle.ground_net.proofs.Shaping.{shape-Op, both_true}
 use Rattle.fir_meaning.specs.WellTyped as kinds
 use Rattle.fir_meaning.specs.WellTyped.{Known, typed, is_one_unsigned, lone_shape, wider, wider_each, literal_shape}
 use Rattle.fir_meaning.specs.Values as tree

@@ -9,11 +9,11 @@ use Rattle.fir_types.specs.declared.fir_type.FirType.{FirType}
 use Rattle.fir_types.specs.declared.leaf.TypeLeaf.{TypeLeaf}
 use Rattle.fir_types.specs.declared.leaf.PathStep.{PathStep}
 use Rattle.fir_types.specs.Leaves.{leaves}
-use Rattle.cycle_values.specs.Values.{fitted}
+use Rattle.prim_ops.specs.Values.{fitted}
 use Rattle.ground_net.specs.Grounds.{Instant, value, mentions}
-use Rattle.net_meaning.specs.Shapes.{shaped, HasShapes, shape}
-use Rattle.net_meaning.specs.Cycles.{integer_at}
-use Rattle.net_meaning.proofs.Shaping.{both_true}
+use Rattle.ground_net.specs.Shapes.{shaped, HasShapes, shape}
+use Rattle.ground_net.specs.Cycles.{integer_at}
+use Rattle.ground_net.proofs.Shaping.{both_true}
 use Rattle.fir_meaning.specs.Components.{width_of_leaf}
 use Rattle.fir_meaning.specs.Values.{Spot, values_at, fitted_to}
 use Rattle.fir_meaning.specs.Mentions.{Region, leaves_at}

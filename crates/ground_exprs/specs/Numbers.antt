@@ -6,8 +6,8 @@ use Rattle.fir_types.specs.declared.leaf.TypeLeaf.{TypeLeaf}
 use Rattle.fir_types.specs.declared.leaf.PathStep.{PathStep}
 use Rattle.fir_types.specs.Leaves.{leaves, under}
 use Rattle.ground_net.specs.Grounds.{Instant}
-use Rattle.net_meaning.specs.Shapes.{Table, HasShapes}
-use Rattle.net_meaning.specs.Cycles.{integer_at}
+use Rattle.ground_net.specs.Shapes.{Table, HasShapes}
+use Rattle.ground_net.specs.Cycles.{integer_at}
 use Rattle.fir_meaning.specs.Components.{Leaf}
 use Rattle.fir_meaning.specs.Values.{Scene, Spot, scene_with}
 use Rattle.fir_meaning.specs.Mentions.{Region}

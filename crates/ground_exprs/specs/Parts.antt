@@ -1,12 +1,13 @@
 -- Parts of components as numbers of leaves, with the dynamic indices on the way to them (FIRRTL specification 3.0, "References").
-use Rattle.std.specs.Prelude.{◌≡◌, ℕ, ◌+◌, ◌*◌, ◌==◌, nat_lt, Bool, List, [], ◌∷◌, flat_map, length, slice_get, ℤ, pos, negsuc, Option, Some, None, Contains, true, ◌⊎◌, if◌then◌else◌}
+use Rattle.std.specs.Prelude.{◌≡◌, ℕ, ◌+◌, ◌*◌, ◌==◌, nat_lt, Bool, List, [], ◌∷◌, map, flat_map, ℤ, pos, negsuc, Option, Some, None, Contains, true, ◌⊎◌, if◌then◌else◌}
 use Rattle.std.specs.List.{list_any, list_all, range_with_len}
 use Rattle.bit_words.specs.declared.value.Kind.TheVariants.{Unsigned}
 use Rattle.bit_words.specs.Values.{integer_of}
 use Rattle.ground_net.specs.declared.ground.Ground.{Ground}
+use Rattle.ground_net.specs.declared.stretch.Span.{Span}
 use Rattle.ground_net.specs.Grounds.{Instant, value, mentions}
-use Rattle.net_meaning.specs.Shapes.{Shape, shaped, Table, shape, is_index}
-use Rattle.net_meaning.specs.Cycles.{integer_at}
+use Rattle.ground_net.specs.Shapes.{Shape, shaped, Table, shape, is_index}
+use Rattle.ground_net.specs.Cycles.{integer_at}
 use Rattle.ground_exprs.specs.declared.part.Pick.{Pick}
 
 -- An index picks one of so many elements, and none past the last one.
@@ -23,6 +24,19 @@ picked instant (pick ∷ picks) leaf = picked_from pick.length (λ k. picked ins
 abbrev pub choices : List Pick → ℕ → List ℕ
 choices [] leaf = leaf ∷ []
 choices (pick ∷ picks) leaf = flat_map (λ k. choices picks (leaf + k * pick.stride)) (range_with_len 0 pick.length)
+
+-- The indices, the lengths of their vectors, and these with their strides.
+abbrev pub indices_of : List Pick → List Ground
+indices_of picks = map (λ pick. pick.index) picks
+
+abbrev pub lengths_of : List Pick → List ℕ
+lengths_of picks = map (λ pick. pick.length) picks
+
+abbrev pub span_of : Pick → Span
+span_of pick = record { length = pick.length; stride = pick.stride }
+
+abbrev pub spans_of : List Pick → List Span
+spans_of picks = map span_of picks
 
 -- What the indices mention.
 abbrev pub index_mentions : List Pick → List ℕ
@@ -50,15 +64,3 @@ pub record IsRead (picks : List Pick) (leaf : ℕ) (g : Ground) : Type 0 where
   pub leaves : (x : ℕ) → Contains (choices picks leaf) x → Contains (mentions g) x
   pub shape : (table : Table) (s : Shape) → are_indices table picks ≡ true → ((x : ℕ) → Contains (choices picks leaf) x → table.leaf x ≡ Some s)
       → shape g table ≡ Some (if is_nowhere picks then shaped Unsigned 0 else s)
-
--- The expression is 0, and mentions the indices.
-pub record IsNothing (picks : List Pick) (g : Ground) : Type 0 where
-  pub value : (instant : Instant) → integer_of (value g instant) ≡ pos 0
-  pub only : (x : ℕ) → Contains (mentions g) x → Contains (index_mentions picks) x
-  pub indices : (x : ℕ) → Contains (index_mentions picks) x → Contains (mentions g) x
-  pub shape : (table : Table) → are_indices table picks ≡ true → shape g table ≡ Some (shaped Unsigned 0)
-
--- What is read of the elements below a number, a stride apart.
-pub record AreReads (picks : List Pick) (leaf stride count : ℕ) (items : List Ground) : Type 0 where
-  pub counted : length items ≡ count
-  pub each : (k : ℕ) (item : Ground) → slice_get items k ≡ Some item → IsRead picks (leaf + k * stride) item

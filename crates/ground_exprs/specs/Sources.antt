@@ -8,10 +8,10 @@ use Rattle.fir_types.specs.declared.leaf.TypeLeaf.{TypeLeaf}
 use Rattle.fir_types.specs.Leaves.{leaves}
 use Rattle.fir_tree.specs.declared.expr.Expr.{Expr}
 use Rattle.fir_tree.specs.declared.expr.Suffix.{Suffix}
-use Rattle.cycle_values.specs.Values.{fitted}
+use Rattle.prim_ops.specs.Values.{fitted}
 use Rattle.ground_net.specs.Grounds.{Instant, value, mentions}
-use Rattle.net_meaning.specs.Shapes.{Shape, shaped, Table, HasShapes, shape}
-use Rattle.net_meaning.specs.Cycles.{integer_at}
+use Rattle.ground_net.specs.Shapes.{Shape, shaped, Table, HasShapes, shape}
+use Rattle.ground_net.specs.Cycles.{integer_at}
 use Rattle.fir_meaning.specs.Components.{Leaf, kind_of_leaf, width_of_leaf}
 use Rattle.fir_meaning.specs.Values as tree
 use Rattle.fir_meaning.specs.Mentions as tree_reads

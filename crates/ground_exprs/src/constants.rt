@@ -3,7 +3,7 @@
 ghost use Rattle.std.specs.Prelude.{◌≡◌, ◌≤◌, ◌%◌, ◌^◌, ℕ, suc, None};
 ghost use Rattle.bit_words.specs.Values.{bits_of};
 ghost use Rattle.bit_words.specs.Numbers.{integer_of_number};
-ghost use Rattle.cycle_values.specs.Values.{fitted};
+ghost use Rattle.prim_ops.specs.Values.{fitted};
 ghost use Rattle.fir_types.specs.Bundles.{least_reaching};
 ghost use Rattle.fir_meaning.specs.Values.{literal_width};
 

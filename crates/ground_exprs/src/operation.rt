@@ -3,7 +3,7 @@
 ghost use Rattle.std.specs.Prelude.{◌≡◌, [], ◌∷◌, map, length, Some, IfOk, IsSome};
 ghost use Rattle.ground_net.specs.declared.ground.Ground.TheVariants.{Op};
 ghost use Rattle.prim_ops.specs.declared.widths.Width.TheVariants.{Bits};
-ghost use Rattle.net_meaning.specs.Shapes.{shape_of_row};
+ghost use Rattle.ground_net.specs.Shapes.{shape_of_row};
 ghost use Rattle.ground_exprs.specs.Sources.{told};
 
 use crate::source::Source;

@@ -1,24 +1,64 @@
 //! Reading the leaves of a part.
 
-ghost use Rattle.std.specs.Prelude.{◌≡◌, ◌+◌, ◌*◌, [], ◌∷◌, IfOk};
-ghost use Rattle.ground_net.specs.declared.ground.Ground.TheVariants.{Select};
-ghost use Rattle.ground_exprs.specs.Parts.{IsRead, IsNothing, is_nowhere};
+ghost use Rattle.std.specs.Prelude.{◌≡◌, ◌+◌, ◌*◌, IfOk, map};
+ghost use Rattle.ground_net.specs.declared.ground.Ground.TheVariants.{Indexed};
+ghost use Rattle.ground_exprs.specs.Parts.{IsRead, is_nowhere, choices, indices_of, lengths_of, spans_of};
 
 use crate::part::Pick;
-use bit_words::{Kind, List, Value};
-use ground_net::{Ground, copied};
+use bit_words::List;
+use ground_net::{Ground, Numbers, Span, copied};
 use std::alloc::{AllocError, Global};
 
-/// What the leaf of a part has, by its number in the elements with the number 0: a selection for each index.
+/// What the leaf of a part has, by its number in the elements with the number 0: of the leaves that it may be the one that the indices
+/// pick.
 pub fn read(alloc: Global, picks: &[Pick], leaf: u32) -> Result<Ground, AllocError>
     ensures { IfOk result (λ g. IsRead picks.now leaf g) }
 {
-    if lead_nowhere(picks) {
-        let past = nothing(alloc, picks)?;
-        return Ok(past);
+    if picks.is_empty() {
+        return Ok(Ground::Leaf(leaf));
     }
-    let selected = read_each(alloc, picks, leaf)?;
-    Ok(selected)
+    let found = indexed(alloc, picks, leaf)?;
+    Ok(found)
+}
+
+/// The same, where there is an index.
+fn indexed(alloc: Global, picks: &[Pick], leaf: u32) -> Result<Ground, AllocError>
+    ensures { IfOk result (λ g. g ≡ Indexed (choices picks.now leaf) (indices_of picks.now) (lengths_of picks.now)) }
+{
+    let numbers = numbers_of(alloc, picks, leaf)?;
+    let mut indices = List::new(alloc);
+    let mut lengths = List::new(alloc);
+    for pick in picks {
+        indices.push(copied(alloc, &pick.index)?)?;
+        lengths.push(pick.length)?;
+    }
+    Ok(Ground::Indexed(numbers, indices, lengths))
+}
+
+/// The numbers of the leaves that a leaf of a part may be.
+fn numbers_of(alloc: Global, picks: &[Pick], leaf: u32) -> Result<Numbers, AllocError>
+    ensures { IfOk result (λ it. it ≡ choices picks.now leaf) }
+{
+    if lead_nowhere(picks) {
+        return Ok(Numbers::of_list(List::new(alloc)));
+    }
+    let spans = spans_of(alloc, picks)?;
+    let numbers = Numbers::of_spans(alloc, leaf, spans)?;
+    Ok(numbers)
+}
+
+/// The vectors on the way.
+fn spans_of(alloc: Global, picks: &[Pick]) -> Result<List<Span>, AllocError>
+    ensures { IfOk result (λ spans. spans ≡ spans_of picks.now) }
+{
+    let mut spans = List::new(alloc);
+    for pick in picks {
+        spans.push(Span {
+            length: pick.length,
+            stride: pick.stride,
+        })?;
+    }
+    Ok(spans)
 }
 
 /// A vector on the way has no elements. Without a look at all of them first, those before it would be walked for nothing.
@@ -26,51 +66,6 @@ pub fn lead_nowhere(picks: &[Pick]) -> bool
     ensures { result ≡ is_nowhere picks.now }
 {
     picks.iter().any(|pick| pick.length == 0)
-}
-
-/// The same, element by element.
-fn read_each(alloc: Global, picks: &[Pick], leaf: u32) -> Result<Ground, AllocError>
-    ensures { IfOk result (λ g. IsRead picks.now leaf g) }
-{
-    let Some((pick, rest)) = picks.split_first() else {
-        return Ok(Ground::Leaf(leaf));
-    };
-    if pick.length == 0 {
-        let items = vec![in alloc; nothing(alloc, rest)?]?;
-        let selected = select(alloc, pick, List::from_vec(items))?;
-        return Ok(selected);
-    }
-    let mut items = List::new(alloc);
-    for number in 0..as_number(pick.length)? {
-        let item = read_each(alloc, rest, element_leaf(leaf, number, pick.stride)?)?;
-        items.push(item)?;
-    }
-    let selected = select(alloc, pick, items)?;
-    Ok(selected)
-}
-
-/// What a leaf has that isn't there, since a vector on the way has no elements: 0, with what the indices mention.
-fn nothing(alloc: Global, picks: &[Pick]) -> Result<Ground, AllocError>
-    ensures { IfOk result (λ g. IsNothing picks.now g) }
-{
-    let Some((pick, rest)) = picks.split_first() else {
-        return Ok(Ground::Const(Value {
-            kind: Kind::Unsigned,
-            width: 0,
-            bits: 0,
-        }));
-    };
-    let items = vec![in alloc; nothing(alloc, rest)?]?;
-    let selected = select(alloc, pick, List::from_vec(items))?;
-    Ok(selected)
-}
-
-/// The item that the index picks.
-fn select(alloc: Global, pick: &Pick, items: List<Ground>) -> Result<Ground, AllocError>
-    ensures { IfOk result (λ g. g ≡ Select (pick.now.index ∷ []) items) }
-{
-    let index = vec![in alloc; copied(alloc, &pick.index)?]?;
-    Ok(Ground::Select(List::from_vec(index), items))
 }
 
 /// A number of elements that have leaves. As leaves are held in memory, a `u32` numbers them; where it doesn't, memory is wanted.

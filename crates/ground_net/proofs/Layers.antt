@@ -10,17 +10,18 @@ use Rattle.bit_words.specs.declared.value.Kind.{Kind}
 use Rattle.bit_words.specs.declared.value.Value.{Value}
 use Rattle.bit_words.specs.Values.{integer_of}
 use Rattle.prim_ops.specs.declared.operation.PrimOp.{PrimOp}
-use Rattle.cycle_values.specs.Values.{fitted, lone, operation}
+use Rattle.prim_ops.specs.Values.{fitted, lone, operation}
 use Rattle.ground_net.specs.declared.ground.Ground.{Ground, ind-Ground, roll-Ground, map-Ground, the_lemmas}
-use Rattle.ground_net.specs.declared.ground.Ground.TheVariants.{Const, Leaf, Op, Mux, Select, Load, Fit, rolls-Const, rolls-Leaf, rolls-Op, rolls-Mux, rolls-Select, rolls-Load, rolls-Fit}
+use Rattle.ground_net.specs.declared.ground.Ground.TheVariants.{Const, Leaf, Op, Mux, Select, Indexed, Load, Fit, rolls-Const, rolls-Leaf, rolls-Op, rolls-Mux, rolls-Select, rolls-Indexed, rolls-Load, rolls-Fit}
 use Rattle.ground_net.specs.declared.ground.Ground.TheOpen.{Ground-F}
-use Rattle.ground_net.specs.Grounds.{Instant, value, mentions, joined, chosen, selected, loaded}
+use Rattle.ground_net.specs.Grounds.{Instant, value, mentions, joined, chosen, selected, place, indexed, loaded}
 use Rattle.ground_net.specs.Renumbering.{with_numbers, seen_by}
 
 module _ (P : Ground → Type 0) (constant : (v : Value) → P (Const v)) (leaf : (x : ℕ) → P (Leaf x))
     (op : (prim : PrimOp) (operands : List Ground) (params : List ℕ) → AllByRecursion P operands → P (Op prim operands params))
     (mux : (items : List Ground) → AllByRecursion P items → P (Mux items))
     (select : (index items : List Ground) → AllByRecursion P index → AllByRecursion P items → P (Select index items))
+    (index : (numbers : List ℕ) (indices : List Ground) (lengths : List ℕ) → AllByRecursion P indices → P (Indexed numbers indices lengths))
     (load : (m k : ℕ) (items : List Ground) → AllByRecursion P items → P (Load m k items))
     (fit : (kind : Kind) (width : ℕ) (items : List Ground) → AllByRecursion P items → P (Fit kind width items)) where
   parts_all : (ys : List ((g : Ground) × P g)) → AllByRecursion P (map (λ y. y.0) ys)
@@ -35,6 +36,7 @@ module _ (P : Ground → Type 0) (constant : (v : Value) → P (Const v)) (leaf 
     | Ground-F.Op prim ys params ↦ λ e. rw (← e) (subst P (sym (rolls-Op prim (map (λ y. y.0) ys) params)) (op prim (map (λ y. y.0) ys) params (parts_all ys)))
     | Ground-F.Mux ys ↦ λ e. rw (← e) (subst P (sym (rolls-Mux (map (λ y. y.0) ys))) (mux (map (λ y. y.0) ys) (parts_all ys)))
     | Ground-F.Select zs ys ↦ λ e. rw (← e) (subst P (sym (rolls-Select (map (λ y. y.0) zs) (map (λ y. y.0) ys))) (select (map (λ y. y.0) zs) (map (λ y. y.0) ys) (parts_all zs) (parts_all ys)))
+    | Ground-F.Indexed ns ys ls ↦ λ e. rw (← e) (subst P (sym (rolls-Indexed ns (map (λ y. y.0) ys) ls)) (index ns (map (λ y. y.0) ys) ls (parts_all ys)))
     | Ground-F.Load m k ys ↦ λ e. rw (← e) (subst P (sym (rolls-Load m k (map (λ y. y.0) ys))) (load m k (map (λ y. y.0) ys) (parts_all ys)))
     | Ground-F.Fit kind width ys ↦ λ e. rw (← e) (subst P (sym (rolls-Fit kind width (map (λ y. y.0) ys))) (fit kind width (map (λ y. y.0) ys) (parts_all ys)))
   ] e)
@@ -62,6 +64,9 @@ value-Mux items instant = grind (arith, common_steps, the_lemmas, maps)
 pub value-Select : (index items : List Ground) (instant : Instant) → value (Select index items) instant ≡ selected (integer_of (lone (values index instant))) (values items instant)
 value-Select index items instant = grind (arith, common_steps, the_lemmas, maps)
 
+pub value-Indexed : (ns : List ℕ) (is : List Ground) (ls : List ℕ) (instant : Instant) → value (Indexed ns is ls) instant ≡ indexed (place (map integer_of (values is instant)) ls) (map instant.leaf ns)
+value-Indexed ns is ls instant = grind (arith, common_steps, the_lemmas, maps)
+
 pub value-Load : (m k : ℕ) (items : List Ground) (instant : Instant) → value (Load m k items) instant ≡ loaded (instant.load m k) (values items instant)
 value-Load m k items instant = grind (arith, common_steps, the_lemmas, maps)
 
@@ -86,6 +91,9 @@ mentions-Mux items = grind (arith, common_steps, the_lemmas, maps)
 
 pub mentions-Select : (index items : List Ground) → mentions (Select index items) ≡ all_mentions index ++ all_mentions items
 mentions-Select index items = grind (arith, common_steps, the_lemmas, maps)
+
+pub mentions-Indexed : (ns : List ℕ) (is : List Ground) (ls : List ℕ) → mentions (Indexed ns is ls) ≡ all_mentions is ++ ns
+mentions-Indexed ns is ls = grind (arith, common_steps, the_lemmas, maps)
 
 pub mentions-Load : (m k : ℕ) (items : List Ground) → mentions (Load m k items) ≡ all_mentions items
 mentions-Load m k items = grind (arith, common_steps, the_lemmas, maps)
@@ -113,6 +121,9 @@ renumbered-Mux number items = grind (arith, common_steps, the_lemmas, maps)
 renumbered-Select : (number : ℕ → ℕ) (index items : List Ground) → with_numbers number (Select index items) ≡ Select (all_renumbered number index) (all_renumbered number items)
 renumbered-Select number index items = grind (arith, common_steps, the_lemmas, maps)
 
+renumbered-Indexed : (number : ℕ → ℕ) (ns : List ℕ) (is : List Ground) (ls : List ℕ) → with_numbers number (Indexed ns is ls) ≡ Indexed (map number ns) (all_renumbered number is) ls
+renumbered-Indexed number ns is ls = grind (arith, common_steps, the_lemmas, maps)
+
 renumbered-Load : (number : ℕ → ℕ) (m k : ℕ) (items : List Ground) → with_numbers number (Load m k items) ≡ Load m k (all_renumbered number items)
 renumbered-Load number m k items = grind (arith, common_steps, the_lemmas, maps)
 
@@ -138,6 +149,8 @@ module _ (number : ℕ → ℕ) (instant : Instant) where
       ∙ (ap chosen (values_same gs h) ∙ sym (value-Mux gs (seen_by number instant)))))
       (λ is gs i h. ap (λ g. value g instant) (renumbered-Select number is gs) ∙ (value-Select (all_renumbered number is) (all_renumbered number gs) instant
       ∙ (ap₂ (λ us vs. selected (integer_of (lone us)) vs) (values_same is i) (values_same gs h) ∙ sym (value-Select is gs (seen_by number instant)))))
+      (λ ns is ls i. ap (λ g. value g instant) (renumbered-Indexed number ns is ls) ∙ (value-Indexed (map number ns) (all_renumbered number is) ls instant
+      ∙ (ap₂ (λ us vs. indexed (place (map integer_of us) ls) vs) (values_same is i) (maps instant.leaf number ns) ∙ sym (value-Indexed ns is ls (seen_by number instant)))))
       (λ m k gs h. ap (λ g. value g instant) (renumbered-Load number m k gs) ∙ (value-Load m k (all_renumbered number gs) instant
       ∙ (ap (loaded (instant.load m k)) (values_same gs h) ∙ sym (value-Load m k gs (seen_by number instant)))))
       (λ kind width gs h. ap (λ g. value g instant) (renumbered-Fit number kind width gs) ∙ (value-Fit kind width (all_renumbered number gs) instant
@@ -160,6 +173,8 @@ module _ (number : ℕ → ℕ) where
       (λ gs h. ap mentions (renumbered-Mux number gs) ∙ (mentions-Mux (all_renumbered number gs) ∙ (all_told gs h ∙ ap (map number) (sym (mentions-Mux gs)))))
       (λ is gs i h. ap mentions (renumbered-Select number is gs) ∙ (mentions-Select (all_renumbered number is) (all_renumbered number gs) ∙ (ap₂ (λ xs ys. xs ++ ys) (all_told is i) (all_told gs h)
       ∙ (sym (map-append number (all_mentions is) (all_mentions gs)) ∙ ap (map number) (sym (mentions-Select is gs))))))
+      (λ ns is ls i. ap mentions (renumbered-Indexed number ns is ls) ∙ (mentions-Indexed (map number ns) (all_renumbered number is) ls ∙ (ap (λ xs. xs ++ map number ns) (all_told is i)
+      ∙ (sym (map-append number (all_mentions is) ns) ∙ ap (map number) (sym (mentions-Indexed ns is ls))))))
       (λ m k gs h. ap mentions (renumbered-Load number m k gs) ∙ (mentions-Load m k (all_renumbered number gs) ∙ (all_told gs h ∙ ap (map number) (sym (mentions-Load m k gs)))))
       (λ kind width gs h. ap mentions (renumbered-Fit number kind width gs) ∙ (mentions-Fit kind width (all_renumbered number gs) ∙ (all_told gs h ∙ ap (map number) (sym (mentions-Fit kind width gs)))))
 
@@ -189,6 +204,10 @@ module _ (a b : Instant) (loads : SameLoads a b) where
       let both : SameOn a b (mentions g ++ all_mentions gs) = subst (SameOn a b) (flat_map-cons (λ l. l) (mentions g) (map mentions gs)) s in
       ap₂ (λ v vs. v ∷ vs) (h.0 (same_left a b (mentions g) (all_mentions gs) both)) (all_agree gs h.1 (same_right a b (mentions g) (all_mentions gs) both))
 
+  leaves_same : (ns : List ℕ) → SameOn a b ns → map a.leaf ns ≡ map b.leaf ns
+  leaves_same [] s = refl
+  leaves_same (n ∷ ns) s = ap₂ (λ v vs. v ∷ vs) (s n (0, omega arith, refl)) (leaves_same ns (same_right a b (n ∷ []) ns s))
+
   loads_same : (m k : ℕ) (vs : List Value) → loaded (a.load m k) vs ≡ loaded (b.load m k) vs
   loads_same m k [] = refl
   loads_same m k (v ∷ []) = refl
@@ -208,6 +227,10 @@ module _ (a b : Instant) (loads : SameLoads a b) where
       let both : SameOn a b (all_mentions is ++ all_mentions gs) = subst (SameOn a b) (mentions-Select is gs) s in
       value-Select is gs a ∙ (ap₂ (λ us vs. selected (integer_of (lone us)) vs) (all_agree is i (same_left a b (all_mentions is) (all_mentions gs) both))
       (all_agree gs h (same_right a b (all_mentions is) (all_mentions gs) both)) ∙ sym (value-Select is gs b)))
+      (λ ns is ls i s.
+      let both : SameOn a b (all_mentions is ++ ns) = subst (SameOn a b) (mentions-Indexed ns is ls) s in
+      value-Indexed ns is ls a ∙ (ap₂ (λ us vs. indexed (place (map integer_of us) ls) vs) (all_agree is i (same_left a b (all_mentions is) ns both))
+      (leaves_same ns (same_right a b (all_mentions is) ns both)) ∙ sym (value-Indexed ns is ls b)))
       (λ m k gs h s. value-Load m k gs a ∙ (ap (loaded (a.load m k)) (all_agree gs h (subst (SameOn a b) (mentions-Load m k gs) s))
       ∙ (loads_same m k (values gs b) ∙ sym (value-Load m k gs b))))
       (λ kind width gs h s. value-Fit kind width gs a ∙ (ap (λ vs. fitted kind width (integer_of (lone vs))) (all_agree gs h (subst (SameOn a b) (mentions-Fit kind width gs) s))

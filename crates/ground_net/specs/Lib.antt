@@ -1,3 +1,4 @@
+pub mod Numbers
 pub mod Grounds
 pub mod Statements
 pub mod Renumbering
@@ -5,3 +6,8 @@ pub mod Reads
 pub mod Cones
 pub mod Watching
 pub mod Naming
+pub mod Shapes
+pub mod Cycles
+pub mod Nets
+pub mod Words
+pub mod StatementShapes

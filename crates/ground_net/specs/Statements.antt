@@ -10,7 +10,7 @@ use Rattle.bit_words.specs.declared.value.Value.{Value}
 use Rattle.ground_net.specs.declared.ground.Ground.{Ground}
 use Rattle.ground_net.specs.declared.circuit.GroundStmt.{GroundStmt, fold-GroundStmt}
 use Rattle.ground_net.specs.declared.circuit.GroundStmt.TheOpen.{GroundStmt-F, GroundArm-F}
-use Rattle.cycle_values.specs.Values.{is_one}
+use Rattle.prim_ops.specs.Values.{is_one}
 use Rattle.ground_net.specs.Grounds.{Instant, value, mentions, joined}
 
 -- What a statement makes of the value that was set before it.

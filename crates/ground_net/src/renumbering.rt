@@ -5,11 +5,16 @@ ghost use Rattle.ground_net.specs.Grounds.{Instant, value, mentions};
 ghost use Rattle.ground_net.specs.Renumbering.{with_numbers, seen_by};
 
 use crate::Ground;
+use crate::new_numbers::NewNumbers;
 use bit_words::List;
 use std::alloc::{AllocError, Global};
 
 /// The expression with the number that stands for each leaf in this list. A leaf without one gets the number 0.
-pub fn renumbered(alloc: Global, ground: &Ground, numbers: &[u32]) -> Result<Ground, AllocError>
+pub fn renumbered(
+    alloc: Global,
+    ground: &Ground,
+    numbers: &NewNumbers,
+) -> Result<Ground, AllocError>
     ensures itself { IfOk result (λ it. it ≡ with_numbers (slice_index numbers.now) ground.now) }
     ensures value { IfOk result (λ it. (instant : Instant) → value it instant ≡ value ground.now (seen_by (slice_index numbers.now) instant)) }
     ensures mentions { IfOk result (λ it. mentions it ≡ map (slice_index numbers.now) (mentions ground.now)) }
@@ -20,12 +25,12 @@ pub fn renumbered(alloc: Global, ground: &Ground, numbers: &[u32]) -> Result<Gro
 
 /// The expression with other numbers for its leaves.
 #[cycle(renumber)]
-fn renumber(alloc: Global, ground: &Ground, numbers: &[u32]) -> Result<Ground, AllocError>
+fn renumber(alloc: Global, ground: &Ground, numbers: &NewNumbers) -> Result<Ground, AllocError>
     ensures { IfOk result (λ it. it ≡ with_numbers (slice_index numbers.now) ground.now) }
 {
     Ok(match ground {
         Ground::Const(value) => Ground::Const(*value),
-        Ground::Leaf(leaf) => Ground::Leaf(number_of(numbers, *leaf)),
+        Ground::Leaf(leaf) => Ground::Leaf(numbers.number_of(*leaf)),
         Ground::Op(prim, operands, params) => Ground::Op(
             *prim,
             renumber_all(alloc, operands.as_slice(), numbers)?,
@@ -35,6 +40,11 @@ fn renumber(alloc: Global, ground: &Ground, numbers: &[u32]) -> Result<Ground, A
         Ground::Select(index, items) => Ground::Select(
             renumber_all(alloc, index.as_slice(), numbers)?,
             renumber_all(alloc, items.as_slice(), numbers)?,
+        ),
+        Ground::Indexed(them, indices, lengths) => Ground::Indexed(
+            them.renumbered(alloc, numbers)?,
+            renumber_all(alloc, indices.as_slice(), numbers)?,
+            List::from_slice(alloc, lengths.as_slice())?,
         ),
         Ground::Load(memory, leaf, items) => Ground::Load(
             *memory,
@@ -54,7 +64,7 @@ fn renumber(alloc: Global, ground: &Ground, numbers: &[u32]) -> Result<Ground, A
 fn renumber_all(
     alloc: Global,
     grounds: &[Ground],
-    numbers: &[u32],
+    numbers: &NewNumbers,
 ) -> Result<List<Ground>, AllocError>
     ensures { IfOk result (λ them. them ≡ map (with_numbers (slice_index numbers.now)) grounds.now) }
 {
@@ -63,14 +73,4 @@ fn renumber_all(
         them.push(renumber(alloc, ground, numbers)?)?;
     }
     Ok(them)
-}
-
-/// The number that stands for a leaf.
-fn number_of(numbers: &[u32], leaf: u32) -> u32
-    ensures { result ≡ slice_index numbers.now leaf }
-{
-    match numbers.get(leaf as usize) {
-        Some(number) => *number,
-        None => 0,
-    }
 }

@@ -3,7 +3,7 @@ use Rattle.std.proofs.Common.{◌≡◌, ℕ, ◌+◌, ◌&&◌, Bool, true, fal
 use Rattle.std.specs.List.{list_all}
 use Rattle.std.proofs.lemmas.List.{map-append, length-append}
 use Rattle.std.proofs.lemmas.List.Folds.{list_all-append}
-use Rattle.cycle_values.specs.Values.{is_one}
+use Rattle.prim_ops.specs.Values.{is_one}
 use Rattle.fir_types.specs.declared.leaf.TypeLeaf.{TypeLeaf}
 use Rattle.fir_types.specs.Leaves.{leaves}
 use Rattle.fir_tree.specs.declared.expr.Expr.{Expr}
@@ -21,8 +21,8 @@ use Rattle.ground_net.specs.declared.circuit.GroundStmt.TheVariants.{When}
 use Rattle.ground_net.specs.declared.circuit.GroundArm.{GroundArm}
 use Rattle.ground_net.specs.Grounds.{value, mentions}
 use Rattle.ground_net.specs.Statements.{is_certain}
-use Rattle.net_meaning.specs.Shapes.{Table, shape}
-use Rattle.net_meaning.specs.StatementShapes.{is_condition, some_unsigned, is_shaped, is_shaped_stmt, are_shaped}
+use Rattle.ground_net.specs.Shapes.{Table, shape}
+use Rattle.ground_net.specs.StatementShapes.{is_condition, some_unsigned, is_shaped, is_shaped_stmt, are_shaped}
 use Rattle.net_of_circuit.specs.Numbers.{is_set, scene_at, leaves_before}
 use Rattle.ground_exprs.specs.Numbers.{Numbering, SameLeaves}
 use Rattle.ground_exprs.proofs.Members.{place_within}

@@ -19,15 +19,15 @@ use Rattle.fir_tree.specs.declared.expr.Form.{Form}
 use Rattle.fir_tree.specs.declared.expr.Suffix.{Suffix}
 use Rattle.fir_tree.specs.declared.expr.Form.TheOpen.{Form-F}
 use Rattle.fir_tree.specs.declared.expr.Form.TheViews.{out-Form}
-use Rattle.cycle_values.specs.Values.{fitted, lone}
+use Rattle.prim_ops.specs.Values.{fitted, lone}
 use Rattle.ground_net.specs.declared.circuit.GroundStmt.{GroundStmt}
 use Rattle.ground_net.specs.Grounds as net
 use Rattle.ground_net.specs.Grounds.{Instant, value, mentions}
 use Rattle.ground_net.specs.Statements.{in_turn, effect, is_certain, live}
 use Rattle.ground_net.proofs.Layers.{value-Const, mentions-Const}
-use Rattle.net_meaning.specs.Shapes.{shaped, HasShapes, shape}
-use Rattle.net_meaning.specs.StatementShapes.{is_shaped}
-use Rattle.net_meaning.proofs.Shaping.{shape-Const, both_true}
+use Rattle.ground_net.specs.Shapes.{shaped, HasShapes, shape}
+use Rattle.ground_net.specs.StatementShapes.{is_shaped}
+use Rattle.ground_net.proofs.Shaping.{shape-Const, both_true}
 use Rattle.fir_meaning.specs.Components.{Leaf, kind_of_leaf, width_of_leaf}
 use Rattle.fir_meaning.specs.Values.{Scene, Spot, beside, fitted_to, follow, suffix_step, spot_of, spot_of_form}
 use Rattle.fir_meaning.specs.Values as tree

@@ -14,12 +14,12 @@ use Rattle.fir_types.specs.declared.leaf.TypeLeaf.{TypeLeaf}
 use Rattle.fir_types.specs.declared.leaf.PathStep.{PathStep}
 use Rattle.fir_types.specs.declared.leaf.PathStep.TheVariants as step
 use Rattle.fir_types.specs.Leaves.{leaves}
-use Rattle.cycle_values.specs.Values.{lone}
+use Rattle.prim_ops.specs.Values.{lone}
 use Rattle.ground_net.specs.Grounds as net
 use Rattle.ground_net.specs.Grounds.{Instant, value, mentions}
 use Rattle.ground_net.specs.Statements.{in_turn, effect, is_certain, live}
-use Rattle.net_meaning.specs.Shapes.{Shape, same_kind, same_shape, HasShapes, shape}
-use Rattle.net_meaning.specs.StatementShapes.{some_same as both_alike, is_shaped}
+use Rattle.ground_net.specs.Shapes.{Shape, same_kind, same_shape, HasShapes, shape}
+use Rattle.ground_net.specs.StatementShapes.{some_same as both_alike, is_shaped}
 use Rattle.fir_meaning.specs.Components.{Leaf}
 use Rattle.fir_meaning.specs.Values.{Spot, beside, fitted_to}
 use Rattle.fir_meaning.specs.Drives.{same_step, same_way, same_leaf, is_turned, of_orientation, setting, left_in}
@@ -78,7 +78,7 @@ way_equal [] [] e = refl
 way_equal [] (y ∷ b) e = absurd (true≢false (sym e))
 way_equal (x ∷ a) [] e = absurd (true≢false (sym e))
 way_equal (x ∷ a) (y ∷ b) e =
-    let both = Rattle.net_meaning.proofs.Shaping.both_true (same_step x y) (same_way a b) e in
+    let both = Rattle.ground_net.proofs.Shaping.both_true (same_step x y) (same_way a b) e in
     ap₂ (λ u v. u ∷ v) (step_equal x y both.0) (way_equal a b both.1)
   where
     step_equal : (x y : PathStep) → same_step x y ≡ true → x ≡ y
@@ -95,7 +95,7 @@ numbers_equal a b e = grind (arith, common_steps, nat_tests, e)
 
 pub leaf_equal : (a b : Leaf) → same_leaf a b ≡ true → a ≡ b
 leaf_equal a b e =
-    let both = Rattle.net_meaning.proofs.Shaping.both_true (a.component == b.component) (same_way a.way b.way) e in
+    let both = Rattle.ground_net.proofs.Shaping.both_true (a.component == b.component) (same_way a.way b.way) e in
     ap₂ (λ c w. record { component = c; way = w }) (numbers_equal a.component b.component both.0) (way_equal a.way b.way both.1)
 
 pub way_itself : (a : List PathStep) → same_way a a ≡ true

@@ -17,16 +17,16 @@ use Rattle.prim_ops.specs.declared.operation.PrimOp.TheVariants.{Eq}
 use Rattle.prim_ops.specs.Kinds.{row_kind}
 use Rattle.prim_ops.specs.Widths.{width_number}
 use Rattle.prim_ops.specs.Results.{one_if}
-use Rattle.cycle_values.specs.Values.{fitted, is_one, kind_or_unsigned, operation}
+use Rattle.prim_ops.specs.Values.{fitted, is_one, kind_or_unsigned, operation}
 use Rattle.ground_net.specs.declared.ground.Ground.{Ground}
 use Rattle.ground_net.specs.declared.ground.Ground.TheVariants.{Const}
 use Rattle.ground_net.specs.declared.circuit.GroundStmt.TheVariants.{Connect}
 use Rattle.ground_net.specs.Grounds.{Instant, value, mentions, joined}
 use Rattle.ground_net.specs.Statements.{in_turn, all_hold, effect, driving, is_certain, live}
 use Rattle.ground_net.proofs.Layers.{value-Op, value-Const, mentions-Op, mentions-Const}
-use Rattle.net_meaning.specs.Shapes.{Shape, shaped, same_kind, shape_of_row, Table, shape, all_of}
-use Rattle.net_meaning.specs.StatementShapes.{some_unsigned, is_condition, is_source, is_shaped}
-use Rattle.net_meaning.proofs.Shaping.{shape-Op, shape-Const, both_true}
+use Rattle.ground_net.specs.Shapes.{Shape, shaped, same_kind, shape_of_row, Table, shape, all_of}
+use Rattle.ground_net.specs.StatementShapes.{some_unsigned, is_condition, is_source, is_shaped}
+use Rattle.ground_net.proofs.Shaping.{shape-Op, shape-Const, both_true}
 use Rattle.ground_exprs.specs.declared.part.Pick.{Pick}
 use Rattle.ground_exprs.specs.Parts.{picked_from, picked, choices, index_mentions, is_index_shape, are_indices, is_nowhere}
 use Rattle.ground_exprs.proofs.Members.{only_one, the_one, not_in_none, in_front, in_later, in_map, from_map, in_flat_map, from_flat_map, from_range}

@@ -5,7 +5,7 @@ use Rattle.std.specs.List.{list_all, list_any}
 use Rattle.std.proofs.lemmas.Grind.{common_steps}
 use Rattle.place_text.specs.declared.place.Place.{Place}
 use Rattle.bit_words.specs.declared.value.Value.{Value}
-use Rattle.cycle_values.specs.Values.{is_one}
+use Rattle.prim_ops.specs.Values.{is_one}
 use Rattle.fir_types.specs.declared.name.Name.{Name}
 use Rattle.fir_types.specs.declared.fir_type.FirType.{FirType}
 use Rattle.fir_types.specs.declared.memory.Memory.{Memory}
@@ -33,9 +33,9 @@ use Rattle.ground_net.specs.declared.circuit.GroundStmt.TheVariants.{When}
 use Rattle.ground_net.specs.declared.circuit.GroundArm.{GroundArm, fold-GroundArm}
 use Rattle.ground_net.specs.Grounds.{Instant, value, mentions}
 use Rattle.ground_net.specs.Statements.{Effect, Driving, DrivingArm, in_turn, first_holding, all_arms, effect, of_stmt, of_arm, driving, driving_of, driving_arm_of, live, is_certain, through_arms}
-use Rattle.net_meaning.specs.Shapes.{Table}
-use Rattle.net_meaning.specs.StatementShapes as passing
-use Rattle.net_meaning.specs.StatementShapes.{is_shaped, is_shaped_stmt, is_shaped_arm, are_shaped}
+use Rattle.ground_net.specs.Shapes.{Table}
+use Rattle.ground_net.specs.StatementShapes as passing
+use Rattle.ground_net.specs.StatementShapes.{is_shaped, is_shaped_stmt, is_shaped_arm, are_shaped}
 use Rattle.ground_statements.specs.Declares.{labels, arm_labels, all_labels, body_labels}
 use Rattle.ground_statements.specs.Arms.{is_typed_arm, are_typed_arms}
 

@@ -6,7 +6,7 @@ use Rattle.std.proofs.lemmas.List.{map-append}
 use Rattle.std.proofs.lemmas.List.Concat.{flat_map-cons}
 use Rattle.bit_words.specs.declared.value.Value.{Value}
 use Rattle.bit_words.specs.Values.{integer_of}
-use Rattle.cycle_values.specs.Values.{is_one}
+use Rattle.prim_ops.specs.Values.{is_one}
 use Rattle.fir_meaning.specs.Components.{Leaf}
 use Rattle.fir_meaning.specs.Drives as tree_drives
 use Rattle.fir_meaning.specs.Loops as tree_loops
@@ -17,7 +17,7 @@ use Rattle.ground_net.specs.declared.circuit.GroundStmt.TheVariants.{When}
 use Rattle.ground_net.specs.declared.circuit.GroundArm.{GroundArm}
 use Rattle.ground_net.specs.Grounds.{Instant, value, mentions}
 use Rattle.ground_net.specs.Statements.{Effect, in_turn, first_holding, effect, driving, live_from, live, is_certain, through_arms}
-use Rattle.net_meaning.specs.Shapes.{HasShapes}
+use Rattle.ground_net.specs.Shapes.{HasShapes}
 use Rattle.ground_exprs.specs.Numbers.{Numbering, SameLeaves}
 use Rattle.ground_exprs.proofs.Onwards.{same_none, same_append}
 use Rattle.ground_statements.specs.Connects.{SameLives}

@@ -11,8 +11,8 @@ use Rattle.ground_net.specs.declared.circuit.GroundStmt.{GroundStmt}
 use Rattle.ground_net.specs.declared.circuit.GroundStmt.TheVariants.{Connect}
 use Rattle.ground_net.specs.Grounds.{value, mentions}
 use Rattle.ground_net.specs.Statements.{in_turn, effect}
-use Rattle.net_meaning.specs.Shapes.{Shape, same_kind, same_shape, Table, shape}
-use Rattle.net_meaning.specs.StatementShapes.{some_same as both_alike, is_shaped}
+use Rattle.ground_net.specs.Shapes.{Shape, same_kind, same_shape, Table, shape}
+use Rattle.ground_net.specs.StatementShapes.{some_same as both_alike, is_shaped}
 use Rattle.fir_meaning.specs.WellTyped.{leaf_shape}
 use Rattle.ground_exprs.proofs.Members.{none_some, some_same}
 use Rattle.ground_exprs.specs.declared.source.Source.{Source}

@@ -13,7 +13,7 @@ use Rattle.ground_net.specs.declared.circuit.GroundStmt.{GroundStmt}
 use Rattle.ground_net.specs.declared.circuit.GroundArm.{GroundArm}
 use Rattle.ground_net.specs.Grounds.{Instant}
 use Rattle.ground_net.specs.Statements.{is_certain}
-use Rattle.net_meaning.specs.Shapes.{Table}
+use Rattle.ground_net.specs.Shapes.{Table}
 use Rattle.ground_exprs.specs.Numbers.{Numbering}
 use Rattle.ground_exprs.specs.Sources.{Entries}
 use Rattle.ground_statements.specs.Declares.{body_labels}

@@ -30,7 +30,7 @@ use Rattle.circuit_laws.specs.OpenReads.{OpenDriving, open_driving}
 use Rattle.ground_net.specs.declared.circuit.GroundStmt.{GroundStmt}
 use Rattle.ground_net.specs.Grounds.{Instant, value, mentions}
 use Rattle.ground_net.specs.Statements.{is_certain}
-use Rattle.net_meaning.specs.Shapes.{Table, HasShapes, shape}
+use Rattle.ground_net.specs.Shapes.{Table, HasShapes, shape}
 use Rattle.net_of_circuit.specs.Numbers.{is_set, scene_at, leaves_before}
 use Rattle.ground_exprs.specs.Numbers.{Numbering, SameLeaves}
 use Rattle.ground_exprs.proofs.Members.{some_same, none_some, from_place, place_within, item_at}

@@ -10,8 +10,8 @@ use Rattle.ground_net.specs.declared.circuit.GroundStmt.{GroundStmt, the_lemmas}
 use Rattle.ground_net.specs.declared.circuit.GroundStmt.TheVariants.{Connect}
 use Rattle.ground_net.specs.Grounds.{Instant, value, mentions, joined}
 use Rattle.ground_net.specs.Statements.{Effect, Driving, in_turn, all_hold, effect, driving, is_certain, live, live_from}
-use Rattle.net_meaning.specs.Shapes.{Table}
-use Rattle.net_meaning.specs.StatementShapes.{is_condition, is_source, is_shaped_stmt, is_shaped}
+use Rattle.ground_net.specs.Shapes.{Table}
+use Rattle.ground_net.specs.StatementShapes.{is_condition, is_source, is_shaped_stmt, is_shaped}
 use Rattle.ground_statements.specs.Connects.{LeavesAlone}
 
 -- Connects

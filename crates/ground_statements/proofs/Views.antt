@@ -16,7 +16,7 @@ use Rattle.fir_meaning.specs.States.{leaf_of}
 use Rattle.fir_meaning.specs.WellTyped.{HasTypes, known_in, are_typed, is_narrow}
 use Rattle.fir_meaning.proofs.Ports.{component_found}
 use Rattle.circuit_laws.proofs.Opening.{below_true}
-use Rattle.net_meaning.specs.Shapes.{Table}
+use Rattle.ground_net.specs.Shapes.{Table}
 use Rattle.net_of_circuit.specs.Numbers.{ModuleLeaf, module_leaves, number_of, leaves_before}
 use Rattle.ground_exprs.proofs.Members.{none_some, some_same, at_place, from_place, place_within, item_at}
 use Rattle.ground_exprs.specs.declared.component.Component.{Component as Entry}

@@ -2,7 +2,7 @@
 use Rattle.std.proofs.Common.{◌≡◌, ℕ, zero, suc, ◌+◌, ◌<◌, ◌≤◌, Bool, true, false, List, [], ◌∷◌, map, length, slice_get, get_or, Some, None, option_map, refl, sym, ap, ◌∙◌, subst, arith, append-nil, ◌⊎◌, inl, inr, if◌then◌else◌}
 use Rattle.std.specs.Prelude.{Contains}
 use Rattle.std.proofs.lemmas.List.{length-map}
-use Rattle.fault_order.specs.First.{HasNone}
+use Rattle.place_text.specs.First.{HasNone}
 use Rattle.bit_words.specs.Values.{integer_of}
 use Rattle.fir_types.specs.declared.port.Port.{Port}
 use Rattle.fir_types.specs.Leaves.{leaves}
@@ -24,7 +24,7 @@ use Rattle.ground_net.specs.declared.circuit.GroundLeaf.{GroundLeaf}
 use Rattle.ground_net.specs.declared.circuit.GroundStmt.{GroundStmt}
 use Rattle.ground_net.specs.Grounds.{joined}
 use Rattle.ground_net.specs.Statements.{drives, is_certain, live}
-use Rattle.net_meaning.specs.Shapes.{Table}
+use Rattle.ground_net.specs.Shapes.{Table}
 use Rattle.net_of_circuit.specs.Numbers.{ModuleLeaf, module_leaves, scene_at, table_of, SameReads, leaves_before}
 use Rattle.ground_exprs.specs.Numbers.{Numbering, SameLeaves}
 use Rattle.ground_exprs.proofs.Members.{some_same, none_some, from_place, place_within}

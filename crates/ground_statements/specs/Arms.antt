@@ -12,7 +12,7 @@ use Rattle.fir_meaning.specs.WellTyped.{Known, HasTypes, typed, is_one_unsigned}
 use Rattle.ground_net.specs.declared.ground.Ground.{Ground}
 use Rattle.ground_net.specs.declared.circuit.GroundArm.{GroundArm}
 use Rattle.ground_net.specs.declared.circuit.GroundStmt.{GroundStmt}
-use Rattle.net_meaning.specs.Shapes.{Table}
+use Rattle.ground_net.specs.Shapes.{Table}
 use Rattle.net_of_circuit.specs.Numbers.{leaves_before}
 use Rattle.ground_exprs.specs.declared.source.Source.{Source}
 use Rattle.ground_exprs.specs.declared.component.Component.{Component}

@@ -23,8 +23,8 @@ use Rattle.ground_net.specs.declared.circuit.GroundStmt.{GroundStmt}
 use Rattle.ground_net.specs.declared.circuit.GroundLeaf.{GroundLeaf}
 use Rattle.ground_net.specs.Grounds.{Instant, joined}
 use Rattle.ground_net.specs.Statements.{in_turn, effect, is_certain, live, drives}
-use Rattle.net_meaning.specs.Shapes.{Table, HasShapes}
-use Rattle.net_meaning.specs.StatementShapes.{is_shaped}
+use Rattle.ground_net.specs.Shapes.{Table, HasShapes}
+use Rattle.ground_net.specs.StatementShapes.{is_shaped}
 use Rattle.net_of_circuit.specs.Numbers.{ModuleLeaf, module_leaves, number_of, scene_at, is_set, table_of, SameReads, leaves_before}
 use Rattle.ground_exprs.specs.Numbers.{Numbering}
 use Rattle.ground_exprs.specs.Sources.{Entries}

@@ -11,8 +11,8 @@ use Rattle.ground_net.specs.declared.circuit.GroundStmt.{GroundStmt}
 use Rattle.ground_net.specs.Grounds as net
 use Rattle.ground_net.specs.Grounds.{Instant, value, mentions}
 use Rattle.ground_net.specs.Statements.{in_turn, effect, is_certain, live}
-use Rattle.net_meaning.specs.Shapes.{Table, HasShapes, shape}
-use Rattle.net_meaning.specs.StatementShapes.{is_shaped}
+use Rattle.ground_net.specs.Shapes.{Table, HasShapes, shape}
+use Rattle.ground_net.specs.StatementShapes.{is_shaped}
 use Rattle.fir_meaning.specs.Components.{Leaf}
 use Rattle.fir_meaning.specs.Values.{Scene}
 use Rattle.fir_meaning.specs.Drives.{left_in, set_by_connect, set_by_invalidate}

@@ -1,7 +1,7 @@
 //! Laws of the definitions. The functions do nothing.
 
 ghost use Rattle.std.specs.Prelude.{◌≡◌, ◌+◌, ℕ, Bool, true, List, Some, length, Contains};
-ghost use Rattle.fault_order.specs.First.{HasNone};
+ghost use Rattle.place_text.specs.First.{HasNone};
 ghost use Rattle.fir_types.specs.declared.leaf.TypeLeaf.{TypeLeaf as TheLeaf};
 ghost use Rattle.fir_tree.specs.declared.circuit.Circuit.{Circuit as ACircuit};
 ghost use Rattle.fir_tree.specs.declared.circuit.Module.{Module as AModule};
@@ -13,7 +13,7 @@ ghost use Rattle.fir_meaning.specs.States.{leaf_of};
 ghost use Rattle.fir_meaning.specs.WellTyped.{HasTypes, are_typed, known_in};
 ghost use Rattle.ground_net.specs.declared.circuit.GroundLeaf.{GroundLeaf as ALeaf};
 ghost use Rattle.ground_net.specs.declared.circuit.GroundStmt.{GroundStmt as Statement};
-ghost use Rattle.net_meaning.specs.Shapes.{Table};
+ghost use Rattle.ground_net.specs.Shapes.{Table};
 ghost use Rattle.net_of_circuit.specs.Numbers.{leaves_before, number_of, table_of};
 ghost use Rattle.ground_exprs.specs.Sources.{Entries, AreNarrow, Knows, known_of};
 ghost use Rattle.ground_statements.specs.Connects.{IsOneToOne};

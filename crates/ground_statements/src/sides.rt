@@ -1,7 +1,7 @@
 //! One side of a connect: the leaves of a part that are flipped, or those that aren't.
 
 ghost use Rattle.std.specs.Prelude.{◌≡◌, ◌≤◌, ◌++◌, false, pos, IfOk, OnOk};
-ghost use Rattle.cycle_values.specs.Values.{fitted};
+ghost use Rattle.prim_ops.specs.Values.{fitted};
 ghost use Rattle.ground_net.specs.declared.ground.Ground.TheVariants.{Const};
 ghost use Rattle.ground_statements.specs.Connects.{has_none};
 ghost use Rattle.ground_statements.specs.Targets.{AreFits, FitsLeaf, IsSide, set_leaves, set_one, are_numbered, AreCounted};

@@ -7,9 +7,9 @@ use Rattle.fir_tree.specs.declared.print.PrintItem.{PrintItem}
 use Rattle.fir_tree.specs.declared.stmt.Stmt.{Stmt}
 use Rattle.item_lines.specs.Items.{wire_name}
 use Rattle.fir_meaning.specs.Components.{Design, TypedModule, Component, component_named}
-use Rattle.print_laws.specs.Wired.{IsItemWire}
-use Rattle.print_laws.proofs.Typed.{unsigned_width}
-use Rattle.item_leaves.specs.Finding.{HasItems}
+use Rattle.print_stop.specs.Wired.{IsItemWire}
+use Rattle.print_stop.proofs.Typed.{unsigned_width}
+use Rattle.found_items.specs.Finding.{HasItems}
 
 no_names : (design : Design) (print : PrintItem) → ¬ (HasItems [] design (print ∷ []))
 no_names design print h = none-some (wire_name print.number) (h.named print (wire_name print.number) (0, omega arith, refl) (0, omega arith, refl))

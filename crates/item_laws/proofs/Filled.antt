@@ -25,7 +25,7 @@ use Rattle.item_lines.specs.Items.{padded}
 use Rattle.fir_meaning.specs.Components.{Declaration, Component, TypedModule, declarations_of, with_types}
 use Rattle.circuit_laws.specs.Designs.{component_of}
 use Rattle.width_laws.specs.Declared.{Typed, KeepsWidth, IsFilled, declared_in, type_of, without_widths}
-use Rattle.item_leaves.proofs.Lists.{item_at, zip_long}
+use Rattle.found_items.proofs.Lists.{item_at, zip_long}
 use Rattle.item_laws.proofs.Typing.{IsAlike, IsBit, module_along}
 
 -- lists

@@ -11,6 +11,7 @@ mod Holding
 mod Heading
 mod Typing
 mod Filled
+mod Resolving
 pub mod Sound
 mod Examples
 mod ExamplesOfItems

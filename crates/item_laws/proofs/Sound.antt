@@ -1,4 +1,4 @@
--- The items of a circuit that a text spells are sound.
+-- The items of a circuit that a text spells, with its `Reset`s resolved, are sound.
 use Rattle.std.proofs.Common.{◌≡◌, ◌≢◌, ℕ, zero, suc, ◌+◌, ◌*◌, ◌<◌, ◌==◌, Bool, true, false, ◌&&◌, List, [], ◌∷◌, ◌++◌, map, drop, length, Option, Some, None, if◌then◌else◌, refl, sym, ap, ap₂, ◌∙◌, subst, append-nil, arith, ⊎_elim}
 use Rattle.std.specs.Prelude.{slice_get, Contains, filter_map}
 use Rattle.std.specs.List.{AllZip, filter, range_with_len, cons_option}
@@ -20,7 +20,9 @@ use Rattle.fir_tree.specs.declared.stmt.Stmt.{Stmt}
 use Rattle.item_lines.specs.Formats.{shows}
 use Rattle.item_lines.specs.Items.{Before, Item, in_block, stmts_of, wire_name, argument_name, number_in, padded, heads, modules_of}
 use Rattle.fir_grammar.specs.Grammar.{IsCircuit}
-use Rattle.fault_order.specs.First.{HasNone}
+use Rattle.reset_search.specs.Feeds.{all_ports}
+use Rattle.reset_search.specs.Resolved.{IsResolved}
+use Rattle.place_text.specs.First.{HasNone}
 use Rattle.fir_names.specs.Faults.{IsFault}
 use Rattle.fir_names.proofs.Members.{Contains-none, Contains-one, Contains-get, Contains-from_map}
 use Rattle.fir_meaning.specs.Components.{Declaration, Component, TypedModule, A_node, design_of, module_at, component_named, told, declared_by_port, declared_in_block, declarations_of}
@@ -33,11 +35,11 @@ use Rattle.width_fit.specs.Fitting.{IsFitted}
 use Rattle.width_laws.specs.Declared.{Typed}
 use Rattle.width_laws.specs.Declared as declared
 use Rattle.width_laws.proofs.Modules.{declarations_filled}
-use Rattle.print_laws.specs.Wired.{IsItemWire}
-use Rattle.log_laws.specs.RunItems.{item_of, prints_of, is_named, block_of, expression_in, node_expression, node_of}
-use Rattle.log_laws.specs.Sound.{IsSound, IsArgumentNode}
-use Rattle.item_leaves.specs.Finding.{HasItems, Has, item_texts, nodes_of}
-use Rattle.item_leaves.proofs.Lists.{place_of}
+use Rattle.print_stop.specs.Wired.{IsItemWire}
+use Rattle.print_stop.specs.RunItems.{item_of, prints_of, is_named, block_of, expression_in, node_expression, node_of}
+use Rattle.print_stop.specs.Sound.{IsSound, IsArgumentNode}
+use Rattle.found_items.specs.Finding.{HasItems, Has, item_texts, nodes_of}
+use Rattle.found_items.proofs.Lists.{place_of}
 use Rattle.item_laws.proofs.Numbers.{Grows, grows_twice, has_grown}
 use Rattle.item_laws.proofs.Growing.{heads_grown, heads_have}
 use Rattle.item_laws.proofs.Below.{all_are}
@@ -47,6 +49,7 @@ use Rattle.item_laws.proofs.Making.{IsMade, Makes, lines_make}
 use Rattle.item_laws.proofs.Holding.{is_of, IsFrom, module_has, print_held, print_at, prints_counted}
 use Rattle.item_laws.proofs.Heading.{heads_counted, drop_front, IsWire, wire_declared}
 use Rattle.item_laws.proofs.Typing.{IsBit, behind_ports, ports_counted, wire_typed}
+use Rattle.item_laws.proofs.Resolving.{turned, in_two, heads_stay, nodes_stay, IsTurned, turned_at}
 use Rattle.item_laws.proofs.Filled.{get_back, IsFilledAt, component_filled, bit_filled, node_filled}
 
 -- lists
@@ -147,6 +150,21 @@ module _ {texts : List (List ℕ)} {k : ℕ} {holder : Module} {own : List Print
   body_is : holder.body ≡ first.0 ++ made.0
   body_is = ap (λ (h : Module). h.body) (sym from.holder_is)
 
+  -- the module of the tree: the heads, and statements with the same nodes
+  record IsInTree (other : Module) : Type 0 where
+    rest : List Stmt
+    body_are : other.body ≡ first.0 ++ rest
+    nodes_are : nodes rest ≡ nodes made.0
+
+  held_in : (reached : ℕ → Bool) (other : Module) (n : ℕ) → other.body ≡ turned reached holder.body n → IsInTree other
+  held_in reached other n is =
+      let both = in_two reached first.0 made.0 n in
+      record {
+        rest = turned reached made.0 both.from;
+        body_are = is ∙ ap (λ ss. turned reached ss n) body_is ∙ both.is ∙ ap (λ ss. ss ++ turned reached made.0 both.from) (heads_stay reached 0 places made.1.names n);
+        nodes_are = nodes_stay reached made.0 both.from;
+      }
+
   makes : Makes texts begin made.1 (nodes made.0)
   makes = lines_make texts from.lines.body from.shown begin (grows_twice (heads_grown 0 places made.1.names) from.grown)
 
@@ -200,8 +218,8 @@ module _ (fitted : Fitted) (widths : List Width) (formed : IsWellFormed fitted) 
   circuit = fitted.checked.resolved
 
   -- the module at a path
-  module _ (path : List ℕ) (m : TypedModule) (stands : module_at (design_of fitted) path ≡ Some m) (known : IsKnownModule fitted m)
-      (from : IsFrom circuit.names known.k known.holder (prints_of (design_of fitted) circuit.prints m)) where
+  module _ (path : List ℕ) (m : TypedModule) (stands : module_at (design_of fitted) path ≡ Some m) (known : IsKnownModule fitted m) (spelled : Module)
+      (from : IsFrom circuit.names known.k spelled (prints_of (design_of fitted) circuit.prints m)) (held : IsInTree from known.holder) where
     -- a component at its place
     record IsAt (n : ℕ) (d : Declaration) : Type 0 where
       c : Component
@@ -234,21 +252,21 @@ module _ (fitted : Fitted) (widths : List Width) (formed : IsWellFormed fitted) 
       abbrev block : List Stmt
       block = map (λ t. t.itself) (map told known.holder.body)
 
-      wire : (d : Declaration) × (slice_get (components.declared_from block (map told ((first from).0 ++ (made from).0))) i ≡ Some d) × IsWire block (number_in circuit.names (wire_name (0 + i))) d
-      wire = wire_declared circuit.names 0 i (places from) (made from).1.names x.place block (made from).0 (place_at from i x here) from.grown
+      wire : (d : Declaration) × (slice_get (components.declared_from block (map told ((first from).0 ++ held.rest))) i ≡ Some d) × IsWire block (number_in circuit.names (wire_name (0 + i))) d
+      wire = wire_declared circuit.names 0 i (places from) (made from).1.names x.place block held.rest (place_at from i x here) from.grown
 
       wire_at : IsAt (length known.holder.ports + i) wire.0
       wire_at = component_at (length known.holder.ports + i) wire.0
           (get_back (map (declared_by_port known.holder.body) known.holder.ports) (declared_in_block (map told known.holder.body)) (length known.holder.ports) i (length-map known.holder.ports (declared_by_port known.holder.body))
-          ∙ ap (λ ss. slice_get (components.declared_from block (map told ss)) i) (body_is from) ∙ wire.1)
+          ∙ ap (λ ss. slice_get (components.declared_from block (map told ss)) i) held.body_are ∙ wire.1)
 
       wire_bit : IsBit wire_at.fills.declared
       wire_bit =
           let before : declared.Declared = behind_ports known.holder in
-          let typed = wire_typed circuit.modules 0 i (places from) (made from).1.names x.place (made from).0 before.known (place_at from i x here) in
+          let typed = wire_typed circuit.modules 0 i (places from) (made from).1.names x.place held.rest before.known (place_at from i x here) in
           let at : slice_get (declared.declared_in circuit.modules known.holder []).types (length known.holder.ports + i) ≡ Some typed.0
           = get_back before.types (declared.in_turn (map (declared.declared_by circuit.modules) known.holder.body) before.known).types (length known.holder.ports) i (ports_counted known.holder.ports [])
-          ∙ ap (λ ss. slice_get (declared.in_turn (map (declared.declared_by circuit.modules) ss) before.known).types i) (body_is from) ∙ typed.1 in
+          ∙ ap (λ ss. slice_get (declared.in_turn (map (declared.declared_by circuit.modules) ss) before.known).types i) held.body_are ∙ typed.1 in
           subst IsBit (same_Some typed.0 wire_at.fills.declared (sym at ∙ wire_at.fills.here)) typed.2
 
       wire_named : wire_at.c.declaration.name ≡ number_in circuit.names (wire_name i)
@@ -256,15 +274,15 @@ module _ (fitted : Fitted) (widths : List Width) (formed : IsWellFormed fitted) 
           let same : 0 + i ≡ i = omega arith in
           ap (λ (d : Declaration). d.name) wire_at.is ∙ wire.2.named ∙ ap (λ n. number_in circuit.names (wire_name n)) same
 
-      wire_block : wire_at.c.declaration.block ≡ (first from).0 ++ (made from).0
-      wire_block = ap (λ (d : Declaration). d.block) wire_at.is ∙ wire.2.block_is ∙ itself_in known.holder.body ∙ body_is from
+      wire_block : wire_at.c.declaration.block ≡ (first from).0 ++ held.rest
+      wire_block = ap (λ (d : Declaration). d.block) wire_at.is ∙ wire.2.block_is ∙ itself_in known.holder.body ∙ held.body_are
 
       abbrev behind : List Stmt
       behind = drop (2 * count) (block_of (component_named m (number_in circuit.names (wire_name i))))
 
-      behind_is : behind ≡ (made from).0
+      behind_is : behind ≡ held.rest
       behind_is =
-          behind_heads (component_named m (number_in circuit.names (wire_name i))) wire_at.c (2 * count) (first from).0 (made from).0
+          behind_heads (component_named m (number_in circuit.names (wire_name i))) wire_at.c (2 * count) (first from).0 held.rest
           (named_so m wire_at.c (number_in circuit.names (wire_name i)) wire_named wire_at.named) wire_block heads_long
 
       wire_is : IsItemWire m wire_at.c behind
@@ -277,7 +295,7 @@ module _ (fitted : Fitted) (widths : List Width) (formed : IsWellFormed fitted) 
         names = (made from).1.names;
         block = wire_block ∙ ap (λ ss. (first from).0 ++ ss) (sym behind_is);
         typed = ap (are_typed (known_in m)) behind_is
-            ∙ typed_behind m (first from).0 (made from).0 (ap (are_typed (known_in m)) (sym (body_is from)) ∙ known.typed.statements);
+            ∙ typed_behind m (first from).0 held.rest (ap (are_typed (known_in m)) (sym held.body_are) ∙ known.typed.statements);
       }
 
       -- its arguments
@@ -290,8 +308,8 @@ module _ (fitted : Fitted) (widths : List Width) (formed : IsWellFormed fitted) 
           let node = (is_made from i x here).made j less in
           let e : Expr = padded node.0 in
           let inside : Contains (nodes known.holder.body) (number j, e)
-          = subst (λ ss. Contains (nodes ss) (number j, e)) (sym (body_is from)) (subst (λ ns. Contains ns (number j, e)) (sym (nodes_append (first from).0 (made from).0))
-          (Contains-append_right (nodes (first from).0) (nodes (made from).0) (number j, e) node.1)) in
+          = subst (λ ss. Contains (nodes ss) (number j, e)) (sym held.body_are) (subst (λ ns. Contains ns (number j, e)) (sym (nodes_append (first from).0 held.rest))
+          (Contains-append_right (nodes (first from).0) (nodes held.rest) (number j, e) (subst (λ ns. Contains ns (number j, e)) (sym held.nodes_are) node.1))) in
           let d = node_declared known.holder (number j) e inside in
           let n = place_of (declarations_of known.holder) d.0 d.1 in
           let at = component_at n.0 d.0 n.1 in
@@ -316,35 +334,41 @@ module _ (fitted : Fitted) (widths : List Width) (formed : IsWellFormed fitted) 
         silent = (is_made from i x here).silent;
       }
 
--- In a well formed circuit that a text spells the items are sound.
-pub spelled_items : (text : List ℕ) (list : List Laid) (fitted : Fitted) (widths : List Width) → IsCircuit text list fitted.checked.resolved → IsWellFormed fitted → IsFitted fitted.checked widths fitted
-    → HasItems fitted.checked.resolved.names (design_of fitted) fitted.checked.resolved.prints
-spelled_items text list fitted widths is formed fits = record {
+-- The items are sound in a well formed circuit that is one that a text spells with its `Reset`s resolved.
+pub spelled_items : (text : List ℕ) (list : List Laid) (circuit : Circuit) (fitted : Fitted) (widths : List Width) → IsCircuit text list circuit → IsResolved circuit fitted.checked.resolved
+    → IsWellFormed fitted → IsFitted fitted.checked widths fitted → HasItems fitted.checked.resolved.names (design_of fitted) fitted.checked.resolved.prints
+spelled_items text list circuit fitted widths is turns formed fits = record {
   named = λ print t among inside.
-      let held = print_held circuit.names 0 is.lines is.names print shown grown (subst (λ ps. Contains ps print) prints_are among) in
+      let held = print_held tree.names 0 is.lines is.names print shown grown (subst (λ ps. Contains ps print) prints_are among) in
       let item = item_is held.from print held.among in
       texts_have held.from item.i item.x item.here t (subst (λ p. Contains (item_texts p) t) (sym item.is) inside);
   sound = λ path m print stands among.
       let known = known_module fitted formed path m stands in
-      let from = module_from m known in
+      let other = spelled_at m known in
+      let from = module_from m known other in
       let item = item_is from print among in
-      subst (λ p. IsSound (design_of fitted) (item_of circuit.names (length (prints_of (design_of fitted) circuit.prints m)) path m p) (nodes_of circuit.names p)) item.is
-      (item_sound fitted widths formed fits path m stands known from item.i item.x item.here);
+      subst (λ p. IsSound (design_of fitted) (item_of tree.names (length (prints_of (design_of fitted) tree.prints m)) path m p) (nodes_of tree.names p)) item.is
+      (item_sound fitted widths formed fits path m stands known other.spelled from (held_in from turns.reached known.holder other.from other.body_is) item.i item.x item.here);
 }
   where
-    circuit : Circuit
-    circuit = fitted.checked.resolved
+    tree : Circuit
+    tree = fitted.checked.resolved
 
-    prints_are : circuit.prints ≡ (modules_of 0 is.lines is.names).0.1
-    prints_are = ap (λ (c : Circuit). c.prints) is.is
+    prints_are : tree.prints ≡ (modules_of 0 is.lines is.names).0.1
+    prints_are = ap (λ (c : Circuit). c.prints) turns.is ∙ ap (λ (c : Circuit). c.prints) is.is
 
-    grown : Grows (modules_of 0 is.lines is.names).1 circuit.names
-    grown = record { more = []; are = ap (λ (c : Circuit). c.names) is.is ∙ sym (append-nil (modules_of 0 is.lines is.names).1) }
+    grown : Grows (modules_of 0 is.lines is.names).1 tree.names
+    grown = record { more = []; are = ap (λ (c : Circuit). c.names) turns.is ∙ ap (λ (c : Circuit). c.names) is.is ∙ sym (append-nil (modules_of 0 is.lines is.names).1) }
 
     shown : all_are (map module_shown is.lines) ≡ true
     shown = spelled_shown text list is.major circuit.main is.lines is.names is.spelled
 
-    module_from : (m : TypedModule) (known : IsKnownModule fitted m) → IsFrom circuit.names known.k known.holder (prints_of (design_of fitted) circuit.prints m)
-    module_from m known =
-        subst (IsFrom circuit.names known.k known.holder) (sym (own_prints fitted formed.names known.k m known.number circuit.prints ∙ ap (filter (is_of known.k)) prints_are))
-        (module_has circuit.names known.k is.lines is.names known.holder shown (ap (λ (c : Circuit). slice_get c.modules known.k) (sym is.is) ∙ known.here) grown)
+    spelled_at : (m : TypedModule) (known : IsKnownModule fitted m) → IsTurned turns.reached circuit.modules known.k known.holder
+    spelled_at m known =
+        turned_at turns.reached 0 (all_ports circuit.modules) circuit.modules known.k known.holder (ap (λ (c : Circuit). slice_get c.modules known.k) (sym turns.is) ∙ known.here)
+
+    module_from : (m : TypedModule) (known : IsKnownModule fitted m) (other : IsTurned turns.reached circuit.modules known.k known.holder)
+        → IsFrom tree.names known.k other.spelled (prints_of (design_of fitted) tree.prints m)
+    module_from m known other =
+        subst (IsFrom tree.names known.k other.spelled) (sym (own_prints fitted formed.names known.k m known.number tree.prints ∙ ap (filter (is_of known.k)) prints_are))
+        (module_has tree.names known.k is.lines is.names other.spelled shown (ap (λ (c : Circuit). slice_get c.modules known.k) (sym is.is) ∙ other.here) grown)

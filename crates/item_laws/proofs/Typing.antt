@@ -23,7 +23,7 @@ use Rattle.item_lines.specs.Items.{wire_name, name_at, with_name, one_bit, zero_
 use Rattle.fir_meaning.specs.Components.{An_input, An_output, A_node, Declaration, Told, ToldArm, told, of_told, of_told_arm, declared_from, declarations_of, declared_by_port}
 use Rattle.width_laws.specs.Declared as declared
 use Rattle.width_laws.specs.Declared.{Typed, Declares, declared_by, declared_in, type_of}
-use Rattle.item_leaves.proofs.Lists.{zip_append}
+use Rattle.found_items.proofs.Lists.{zip_append}
 
 -- the type of a node is that of its expression
 pub record IsAlike (t : Typed) (d : Declaration) : Type 0 where

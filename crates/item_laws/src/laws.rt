@@ -8,6 +8,7 @@ ghost use Rattle.fir_layout.specs.Layout.{tokens_in};
 ghost use Rattle.fir_types.specs.declared.name.Name.{Name as AName};
 ghost use Rattle.prim_ops.specs.declared.widths.Width.{Width as TheWidth};
 ghost use Rattle.fir_tree.specs.declared.expr.Expr.{Expr as AnExpr};
+ghost use Rattle.fir_tree.specs.declared.circuit.Circuit.{Circuit as ACircuit};
 ghost use Rattle.fir_tree.specs.declared.circuit.Module.{Module as AModule};
 ghost use Rattle.fir_tree.specs.declared.scope.Fitted.{Fitted as FittedCircuit};
 ghost use Rattle.item_lines.specs.declared.line.LineModule.{LineModule as SomeLines};
@@ -16,7 +17,8 @@ ghost use Rattle.fir_grammar.specs.Grammar.{IsSpelled, IsCircuit, circuit_of};
 ghost use Rattle.fir_meaning.specs.Components.{design_of};
 ghost use Rattle.circuit_laws.specs.WellFormed.{IsWellFormed};
 ghost use Rattle.width_fit.specs.Fitting.{IsFitted};
-ghost use Rattle.item_leaves.specs.Finding.{HasItems};
+ghost use Rattle.reset_search.specs.Resolved.{IsResolved};
+ghost use Rattle.found_items.specs.Finding.{HasItems};
 ghost use Rattle.item_laws.specs.Drivers.{drivers, conditions};
 
 /// In a module that a text spells the wire of item k is driven by two statements alone: by the connect of 0 at the beginning of the body,
@@ -28,9 +30,9 @@ pub fn wires_have_two_connects()
         → (at : APlace) × (drivers (number_in (circuit_of main modules names).names (wire_name k)) holder.body ≡ Some (zero_bit at) ∷ Some condition ∷ []) }
 {}
 
-/// In a well formed circuit that a text spells, with types that widths give, the items are sound: their names are there, and in each module
-/// at each path the wire of each item and the nodes of its arguments are what the item stands for.
+/// In a well formed circuit that a text spells, with its `Reset`s resolved and with types that widths give, the items are sound: their names
+/// are there, and in each module at each path the wire of each item and the nodes of its arguments are what the item stands for.
 pub fn spelled_circuits_have_items()
-    ensures { (text : List ℕ) (list : List ALaid) (fitted : FittedCircuit) (widths : List TheWidth) → IsCircuit text list fitted.checked.resolved → IsWellFormed fitted
-        → IsFitted fitted.checked widths fitted → HasItems fitted.checked.resolved.names (design_of fitted) fitted.checked.resolved.prints }
+    ensures { (text : List ℕ) (list : List ALaid) (circuit : ACircuit) (fitted : FittedCircuit) (widths : List TheWidth) → IsCircuit text list circuit
+        → IsResolved circuit fitted.checked.resolved → IsWellFormed fitted → IsFitted fitted.checked widths fitted → HasItems fitted.checked.resolved.names (design_of fitted) fitted.checked.resolved.prints }
 {}

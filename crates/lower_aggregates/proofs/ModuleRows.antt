@@ -14,7 +14,7 @@ use Rattle.fir_tree.specs.LeafNames.{Texts}
 use Rattle.fir_meaning.specs.Components.{Component, TypedModule, width_of_leaf}
 use Rattle.fir_meaning.specs.States.{is_port}
 use Rattle.fir_meaning.specs.WellTyped.{HasTypes, leaf_shape}
-use Rattle.cycle_values.specs.Shapes.{shaped}
+use Rattle.prim_ops.specs.Shapes.{shaped}
 use Rattle.ground_net.specs.declared.circuit.GroundLeaf.{GroundLeaf}
 use Rattle.net_of_circuit.specs.Numbers.{ModuleLeaf, leaves_of, module_leaves, is_set, table_of, ground_shape}
 use Rattle.net_of_circuit.specs.Lowering.{IsGroundLeaf}

@@ -8,10 +8,10 @@ use Rattle.fir_types.specs.declared.leaf.TypeLeaf.{TypeLeaf}
 use Rattle.fir_types.specs.Leaves.{leaves}
 use Rattle.fir_tree.specs.declared.expr.Expr.{Expr}
 use Rattle.bit_words.specs.Values.{integer_of}
-use Rattle.cycle_values.specs.Values.{fitted}
+use Rattle.prim_ops.specs.Values.{fitted}
 use Rattle.fir_meaning.specs.Components.{A_reset_register, kind_of_leaf, width_of_leaf}
 use Rattle.ground_net.specs.Grounds.{value, mentions}
-use Rattle.net_meaning.specs.Shapes.{shaped, shape}
+use Rattle.ground_net.specs.Shapes.{shaped, shape}
 use Rattle.ground_net.specs.declared.ground.Ground.{Ground}
 use Rattle.ground_net.specs.declared.net.NetRegister.{NetRegister}
 use Rattle.ground_net.specs.declared.net.NetReset.{NetReset}

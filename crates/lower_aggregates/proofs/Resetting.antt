@@ -12,8 +12,8 @@ use Rattle.fir_types.specs.declared.leaf.TypeLeaf.{TypeLeaf}
 use Rattle.fir_types.specs.Leaves.{leaves}
 use Rattle.fir_tree.specs.declared.circuit.Module.{Module}
 use Rattle.fir_tree.specs.declared.expr.Expr.{Expr}
-use Rattle.cycle_values.specs.Values.{fitted, lone}
-use Rattle.cycle_values.specs.Values.{is_one as is_one_value}
+use Rattle.prim_ops.specs.Values.{fitted, lone}
+use Rattle.prim_ops.specs.Values.{is_one as is_one_value}
 use Rattle.fir_meaning.specs.Components.{TypedModule, Component, Leaf, kind_of_leaf, width_of_leaf, type_in}
 use Rattle.fir_meaning.specs.States.{is_register, leaf_of}
 use Rattle.fir_meaning.specs.Values as tree
@@ -26,8 +26,8 @@ use Rattle.fir_meaning.specs.WellTyped.{HasTypes, leaf_shape, is_condition, is_o
 use Rattle.ground_net.specs.declared.net.NetReset.{NetReset}
 use Rattle.ground_net.specs.Grounds.{Instant, value, mentions}
 use Rattle.ground_net.proofs.Layers.{value-Const, mentions-Const}
-use Rattle.net_meaning.specs.Shapes.{shaped, Table, HasShapes, shape, shape_of_value, is_unsigned}
-use Rattle.net_meaning.proofs.Shaping.{shape-Const}
+use Rattle.ground_net.specs.Shapes.{shaped, Table, HasShapes, shape, shape_of_value, is_unsigned}
+use Rattle.ground_net.proofs.Shaping.{shape-Const}
 use Rattle.net_of_circuit.specs.Numbers.{number_of, scene_at, SameReads}
 use Rattle.net_of_circuit.specs.Lowering.{IsReset}
 use Rattle.ground_exprs.specs.Numbers.{Numbering, SameLeaves}

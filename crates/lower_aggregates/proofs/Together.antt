@@ -18,7 +18,7 @@ use Rattle.fir_meaning.specs.States.{is_register}
 use Rattle.fir_meaning.specs.WellTyped.{HasTypes, are_typed, is_condition, is_typed}
 use Rattle.ground_net.specs.declared.circuit.GroundInstance.{GroundInstance}
 use Rattle.ground_net.specs.declared.net.NetRegister.{NetRegister}
-use Rattle.net_meaning.specs.Shapes.{Table}
+use Rattle.ground_net.specs.Shapes.{Table}
 use Rattle.net_of_circuit.specs.Numbers.{ModuleLeaf, module_leaves, leaves_of, number_of, leaves_before, instance_parts, memory_parts}
 use Rattle.net_of_circuit.specs.Lowering.{HasReset, IsGroundInstance}
 use Rattle.ground_exprs.specs.Sources.{Entries, Knows, known_of}

@@ -1,7 +1,7 @@
 -- Modules that are lowered.
 use Rattle.std.specs.Prelude.{◌≡◌, ℕ, List, map, zip, nat_eq, Contains, Some, is_some, true}
 use Rattle.std.specs.Map.{lookup}
-use Rattle.fault_order.specs.First.{HasNone}
+use Rattle.place_text.specs.First.{HasNone}
 use Rattle.fir_types.specs.declared.fir_type.FirType.{FirType}
 use Rattle.fir_types.specs.declared.memory.Memory.{Memory}
 use Rattle.fir_types.specs.Leaves.{leaves}

@@ -2,7 +2,7 @@
 use Rattle.std.specs.Prelude.{◌≡◌, ℕ, ◌+◌, ◌++◌, ◌&&◌, min, Bool, true, List, [], ◌∷◌, length, take, slice_get, sum_by, pos, Option, Some, None}
 use Rattle.fir_types.specs.declared.leaf.TypeLeaf.{TypeLeaf}
 use Rattle.fir_types.specs.Leaves.{leaves}
-use Rattle.cycle_values.specs.Values.{fitted}
+use Rattle.prim_ops.specs.Values.{fitted}
 use Rattle.fir_meaning.specs.Components.{Component, Sort, A_register, A_reset_register, kind_of_leaf, width_of_leaf}
 use Rattle.fir_meaning.specs.WellTyped.{Known, is_condition, is_typed}
 use Rattle.ground_net.specs.declared.ground.Ground.{Ground}

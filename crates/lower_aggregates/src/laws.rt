@@ -17,7 +17,7 @@ ghost use Rattle.std.specs.List.{list_all};
 ghost use Rattle.lower_aggregates.specs.Headings.{headings_of};
 ghost use Rattle.ground_net.specs.declared.net.NetReset.{NetReset as AReset};
 ghost use Rattle.ground_net.specs.declared.net.NetRegister.{NetRegister as ARegister};
-ghost use Rattle.net_meaning.specs.Shapes.{Table};
+ghost use Rattle.ground_net.specs.Shapes.{Table};
 ghost use Rattle.net_of_circuit.specs.Numbers.{leaves_before, ModuleLeaf, module_leaves, number_of, register_numbers, memory_parts, instance_parts};
 ghost use Rattle.lower_aggregates.specs.Parts.{parts_of};
 ghost use Rattle.net_of_circuit.specs.Lowering.{IsReset, IsGroundPort, HasReset, IsGroundInstance, IsGroundMemory};

@@ -33,7 +33,7 @@ pub fn lower(alloc: Global, fitted: &Fitted) -> Result<GroundCircuit, AllocError
 }
 
 /// The numbers of modules by their names, of each name the first.
-fn numbers_of(alloc: Global, modules: &[Module]) -> Result<IndexMap<u32, u32>, AllocError>
+pub fn numbers_of(alloc: Global, modules: &[Module]) -> Result<IndexMap<u32, u32>, AllocError>
     ensures { IfOk result (λ numbers. IsPlaced (map (λ m. m.name) modules.now) numbers.entries) }
 {
     let mut numbers = IndexMap::new(alloc);
@@ -65,7 +65,7 @@ fn as_number(number: usize) -> Result<u32, AllocError>
 }
 
 /// The number of a module.
-fn number_of(numbers: &IndexMap<u32, u32>, name: u32) -> u32
+pub fn number_of(numbers: &IndexMap<u32, u32>, name: u32) -> u32
     requires { is_some (lookup (nat_eq name) numbers.now.entries) ≡ true }
     ensures { lookup (nat_eq name) numbers.now.entries ≡ Some result }
 {
@@ -99,7 +99,7 @@ fn lower_modules(
 }
 
 /// How many declarations a module has.
-fn count_of(alloc: Global, holder: &Module) -> Result<usize, AllocError>
+pub fn count_of(alloc: Global, holder: &Module) -> Result<usize, AllocError>
     ensures { IfOk result (λ count. count ≡ length (all_declarations holder.now)) }
 {
     pieces_are_components();
@@ -135,7 +135,7 @@ fn lower_at(
 }
 
 /// Whether main reaches the module of a number.
-fn is_reached(reached: &[bool], number: usize) -> bool
+pub fn is_reached(reached: &[bool], number: usize) -> bool
     ensures { (result ≡ true) ↔ (slice_get reached.now number ≡ Some true) }
 {
     match reached.get(number) {

@@ -12,7 +12,7 @@ use Rattle.fir_types.specs.Leaves.{leaves}
 use Rattle.fir_types.specs.Bundles.{instance_of}
 use Rattle.fir_tree.specs.declared.expr.Expr.{Expr}
 use Rattle.fir_tree.specs.declared.scope.Fitted.{Fitted}
-use Rattle.cycle_values.specs.Shapes.{shape_of_value}
+use Rattle.prim_ops.specs.Shapes.{shape_of_value}
 use Rattle.fir_meaning.specs.Components.{Design, TypedModule, Component, Sort, An_input, An_output, A_wire, A_register, A_reset_register, A_memory, An_instance, A_node, design_of, module_at, component_named, target_in, typed_ports, flat, flat_through, type_in, is_clock, flow_of}
 use Rattle.fir_meaning.specs.Values.{Valuation, scene_of, scene_with}
 use Rattle.fir_meaning.specs.Values as tree

@@ -22,10 +22,10 @@ use Rattle.ground_net.specs.declared.net.NetRegister.{NetRegister}
 use Rattle.ground_net.specs.Grounds.{Instant}
 use Rattle.ground_net.specs.Reads.{Reads, driver_of, read_of, read_by}
 use Rattle.ground_net.specs.Cones.{register_needs, mentioned_by, mentioned_by_reset}
-use Rattle.net_meaning.specs.Shapes.{HasShapes, shaped}
-use Rattle.net_meaning.specs.Cycles.{NetState, instant_of, driven_or, after_reset}
-use Rattle.net_meaning.specs.Cycles as cycle
-use Rattle.net_meaning.specs.Nets.{table_of, leaf_shape}
+use Rattle.ground_net.specs.Shapes.{HasShapes, shaped}
+use Rattle.ground_net.specs.Cycles.{NetState, instant_of, driven_or, after_reset}
+use Rattle.ground_net.specs.Cycles as cycle
+use Rattle.ground_net.specs.Nets.{table_of, leaf_shape}
 use Rattle.net_of_circuit.specs.FlatOrder.{Standing, flat_of}
 use Rattle.net_of_circuit.specs.NetOf.{Driven, part_of, IsSeen, seen_valuation}
 use Rattle.net_of_circuit.specs.Numbers.{role_of}

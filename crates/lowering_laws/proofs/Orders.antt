@@ -18,8 +18,8 @@ use Rattle.ground_net.specs.declared.circuit.FlatCircuit.{FlatCircuit}
 use Rattle.ground_net.specs.declared.net.Net.{Net}
 use Rattle.ground_net.specs.declared.net.NetRegister.{NetRegister}
 use Rattle.ground_net.specs.Cones.{register_needs}
-use Rattle.net_meaning.specs.Cycles.{NetState, instant_of}
-use Rattle.net_meaning.specs.Cycles as cycle
+use Rattle.ground_net.specs.Cycles.{NetState, instant_of}
+use Rattle.ground_net.specs.Cycles as cycle
 use Rattle.expand_whens.specs.Expanding.{IsExpanded}
 use Rattle.net_of_circuit.specs.FlatOrder.{Placed, InFlatOrder, no_more, one_more, an_instance, Standing, all_leaves, flat_of}
 use Rattle.net_of_circuit.specs.NetOf.{Driven, part_of, IsSeen, seen_valuation}

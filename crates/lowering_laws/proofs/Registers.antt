@@ -5,7 +5,7 @@ use Rattle.bit_words.specs.declared.value.Value.{Value}
 use Rattle.bit_words.specs.Values.{integer_of}
 use Rattle.fir_types.specs.declared.leaf.TypeLeaf.{TypeLeaf}
 use Rattle.fir_tree.specs.declared.expr.Expr.{Expr}
-use Rattle.cycle_values.specs.Values.{is_one}
+use Rattle.prim_ops.specs.Values.{is_one}
 use Rattle.fir_meaning.specs.Components.{TypedModule, Component, Leaf, Sort, An_input, An_output, A_wire, A_register, A_reset_register, A_memory, An_instance, A_node, target_in, type_in, is_clock, flow_of}
 use Rattle.fir_meaning.specs.Values.{Valuation, Scene, scene_of, whole}
 use Rattle.fir_meaning.specs.Values as tree
@@ -33,8 +33,8 @@ use Rattle.ground_net.specs.Grounds.{Instant, value, mentions, joined}
 use Rattle.ground_net.specs.Statements.{drives, live}
 use Rattle.ground_net.specs.Renumbering.{with_numbers, seen_by}
 use Rattle.ground_net.proofs.Layers.{renumbered_value}
-use Rattle.net_meaning.specs.Shapes.{Table, HasShapes}
-use Rattle.net_meaning.specs.Cycles.{driven_or, after_reset}
+use Rattle.ground_net.specs.Shapes.{Table, HasShapes}
+use Rattle.ground_net.specs.Cycles.{driven_or, after_reset}
 use Rattle.expand_whens.specs.Expanding.{IsDriver, IsUndriven, Drives}
 use Rattle.net_of_circuit.specs.FlatOrder.{Standing, flat_of}
 use Rattle.net_of_circuit.specs.NetOf.{Held, Driven, part_of, valuation_of, is_input_of_main, is_late_read, Without_value, Given, Kept}

@@ -24,7 +24,7 @@ use Rattle.fir_meaning.specs.WellTyped.{leaf_shape}
 use Rattle.fir_meaning.proofs.Settling.{at, local, local_at, flat_none}
 use Rattle.fir_meaning.proofs.Ports.{target_is, target_sort}
 use Rattle.circuit_laws.specs.WellFormed.{IsWellFormed}
-use Rattle.cycle_values.specs.Shapes.{shape_of_value}
+use Rattle.prim_ops.specs.Shapes.{shape_of_value}
 use Rattle.ground_net.specs.declared.circuit.GroundCircuit.{GroundCircuit}
 use Rattle.ground_net.specs.declared.circuit.DrivenCircuit.{DrivenCircuit}
 use Rattle.ground_net.specs.declared.circuit.DrivenModule.{DrivenModule}
@@ -32,8 +32,8 @@ use Rattle.ground_net.specs.declared.circuit.GroundInstance.{GroundInstance}
 use Rattle.ground_net.specs.declared.circuit.GroundLeaf.{GroundLeaf}
 use Rattle.ground_net.specs.Grounds.{Instant}
 use Rattle.ground_net.specs.Renumbering.{seen_by}
-use Rattle.net_meaning.specs.Shapes.{HasShapes, shaped}
-use Rattle.net_meaning.specs.Cycles.{integer_at}
+use Rattle.ground_net.specs.Shapes.{HasShapes, shaped}
+use Rattle.ground_net.specs.Cycles.{integer_at}
 use Rattle.expand_whens.specs.Expanding.{IsExpanded}
 use Rattle.net_of_circuit.specs.FlatOrder.{Placed, Standing, all_leaves, flat_of, ListsLeaves}
 use Rattle.net_of_circuit.specs.NetOf.{valuation_of}

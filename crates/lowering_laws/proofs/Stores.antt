@@ -23,7 +23,7 @@ use Rattle.ground_net.specs.declared.circuit.GroundMemory.{GroundMemory}
 use Rattle.ground_net.specs.declared.net.NetMemory.{NetMemory}
 use Rattle.ground_net.specs.declared.net.NetPort.{NetPort}
 use Rattle.ground_net.specs.Grounds.{Instant}
-use Rattle.cycle_values.specs.Values.{lone}
+use Rattle.prim_ops.specs.Values.{lone}
 use Rattle.net_of_circuit.specs.FlatOrder.{Placed, all_leaves, all_memories, memory_in, flat_of}
 use Rattle.net_of_circuit.specs.NetOf.{Names, NameAll, IsPortOf, IsMemoryOf, path_text, read_field}
 use Rattle.net_of_circuit.specs.Numbers.{ModuleLeaf, leaves_of, number_of}

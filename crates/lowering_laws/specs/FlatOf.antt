@@ -9,7 +9,7 @@ use Rattle.fir_types.specs.Leaves.{leaves}
 use Rattle.fir_tree.specs.declared.expr.Expr.{Expr}
 use Rattle.fir_tree.specs.declared.scope.Fitted.{Fitted}
 use Rattle.fir_tree.specs.LeafNames.{Texts}
-use Rattle.cycle_values.specs.Shapes.{shape_of_value}
+use Rattle.prim_ops.specs.Shapes.{shape_of_value}
 use Rattle.fir_meaning.specs.Components.{TypedModule, Component, A_node, design_of, module_named, flat, is_clock, kind_of_leaf, width_of_leaf}
 use Rattle.fir_meaning.specs.Values.{scene_of}
 use Rattle.fir_meaning.specs.Values as tree

@@ -15,7 +15,7 @@ ghost use Rattle.ground_net.specs.declared.circuit.FlatCircuit.{FlatCircuit as T
 ghost use Rattle.ground_net.specs.declared.net.Net.{Net as TheNet};
 ghost use Rattle.ground_net.specs.declared.net.NetRegister.{NetRegister as TheRegister};
 ghost use Rattle.ground_net.specs.Cones.{register_needs};
-ghost use Rattle.net_meaning.specs.Cycles.{NetState, Valuation, instant_of, next_of_register as next_of_net};
+ghost use Rattle.ground_net.specs.Cycles.{NetState, Valuation, instant_of, next_of_register as next_of_net};
 ghost use Rattle.expand_whens.specs.Expanding.{IsExpanded};
 ghost use Rattle.net_of_circuit.specs.FlatOrder.{Placed, InFlatOrder, Standing, all_leaves, flat_of};
 ghost use Rattle.net_of_circuit.specs.NetOf.{Driven, part_of, IsSeen, seen_valuation};

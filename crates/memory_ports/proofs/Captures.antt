@@ -13,8 +13,8 @@ use Rattle.ground_net.specs.declared.net.NetMemory.{NetMemory}
 use Rattle.ground_net.specs.declared.net.NetPort.{NetPort}
 use Rattle.ground_net.specs.declared.net.NetRead.{NetRead}
 use Rattle.ground_net.specs.Cones.{numbered}
-use Rattle.net_meaning.specs.Cycles.{Capture, captured_by, captures}
-use Rattle.net_meaning.specs.Nets.{IsNet, HasRole}
+use Rattle.ground_net.specs.Cycles.{Capture, captured_by, captures}
+use Rattle.ground_net.specs.Nets.{IsNet, HasRole}
 use Rattle.memory_ports.specs.declared.reads.ReadData.TheVariants as read_data
 use Rattle.memory_ports.specs.Placing.{Shows, data_of, load_of, reads_of_port, reads_of, without_word}
 use Rattle.memory_ports.proofs.Lists.{some_same, arrives, numbered_is}

@@ -8,9 +8,9 @@ use Rattle.bit_words.specs.declared.value.Kind.TheVariants.{Unsigned, Signed}
 use Rattle.bit_words.specs.declared.value.Value.{Value}
 use Rattle.bit_words.specs.Values.{integer, integer_of, InRange}
 use Rattle.bit_words.proofs.Congruence.{integer_in_range}
-use Rattle.cycle_values.specs.Values.{fitted, is_one}
-use Rattle.cycle_values.specs.Ports.{set_to_read, read_by_port}
-use Rattle.cycle_values.proofs.Fittings.{fitted_same}
+use Rattle.prim_ops.specs.Values.{fitted, is_one}
+use Rattle.prim_ops.specs.Ports.{set_to_read, read_by_port}
+use Rattle.prim_ops.proofs.Fittings.{fitted_same}
 use Rattle.ground_net.specs.declared.ground.Ground.TheVariants as ground
 use Rattle.ground_net.specs.declared.net.Net.{Net}
 use Rattle.ground_net.specs.declared.net.NetMemory.{NetMemory}
@@ -20,10 +20,10 @@ use Rattle.ground_net.specs.declared.net.ElementLeaf.{ElementLeaf}
 use Rattle.ground_net.specs.Grounds.{Instant, value, mentions, chosen, loaded, joined}
 use Rattle.ground_net.specs.Cones.{or_no_leaf}
 use Rattle.ground_net.proofs.Layers.{value-Const, value-Leaf, value-Mux, value-Load, mentions-Const, mentions-Leaf, mentions-Mux, mentions-Load}
-use Rattle.net_meaning.specs.Shapes.{Shape, shaped, shape_of_value, Table, all_of, shape_of_choice, shape_of_load, shape}
-use Rattle.net_meaning.specs.Cycles.{NetState, Valuation, instant_of, held_at, fitted_to_element, element_leaf, depth_of, is_set, shown, where_it_reads}
-use Rattle.net_meaning.specs.Nets.{IsWithin, element_shape, element_shapes}
-use Rattle.net_meaning.proofs.Shaping.{shape-Const, shape-Leaf, shape-Mux, shape-Load}
+use Rattle.ground_net.specs.Shapes.{Shape, shaped, shape_of_value, Table, all_of, shape_of_choice, shape_of_load, shape}
+use Rattle.ground_net.specs.Cycles.{NetState, Valuation, instant_of, held_at, fitted_to_element, element_leaf, depth_of, is_set, shown, where_it_reads}
+use Rattle.ground_net.specs.Nets.{IsWithin, element_shape, element_shapes}
+use Rattle.ground_net.proofs.Shaping.{shape-Const, shape-Leaf, shape-Mux, shape-Load}
 use Rattle.memory_ports.specs.Placing.{zero_bit, reading, load_of}
 
 -- Shapes

@@ -13,8 +13,8 @@ use Rattle.ground_net.specs.declared.net.Leaf.{Leaf}
 use Rattle.ground_net.specs.declared.net.NetMemory.{NetMemory}
 use Rattle.ground_net.specs.declared.net.NetRegister.{NetRegister}
 use Rattle.ground_net.specs.Reads.{lone_driver}
-use Rattle.net_meaning.specs.Nets.{element_shape, shape_or_none}
-use Rattle.net_meaning.specs.Words.{count_words, memory_words}
+use Rattle.ground_net.specs.Nets.{element_shape, shape_or_none}
+use Rattle.ground_net.specs.Words.{count_words, memory_words}
 use Rattle.memory_ports.specs.declared.reads.ReadData.{ReadData}
 use Rattle.memory_ports.specs.declared.leaves.Counts.{Counts}
 use Rattle.memory_ports.specs.Placing.{Part, part_of, parts_of, role_behind, IsLeafOf, driver_for, own_driver, without_word, reads_of, last_data, data_in, IsPlaced}

@@ -11,9 +11,9 @@ use Rattle.ground_net.specs.declared.net.NetPort.{NetPort}
 use Rattle.ground_net.specs.declared.net.NetWrite.{NetWrite}
 use Rattle.ground_net.specs.declared.net.NetRead.{NetRead}
 use Rattle.ground_net.specs.declared.net.ElementLeaf.{ElementLeaf}
-use Rattle.net_meaning.specs.Shapes.{Table, shape}
-use Rattle.net_meaning.specs.Nets.{element_shape}
-use Rattle.net_meaning.proofs.Shaping.{shape-Leaf}
+use Rattle.ground_net.specs.Shapes.{Table, shape}
+use Rattle.ground_net.specs.Nets.{element_shape}
+use Rattle.ground_net.proofs.Shaping.{shape-Leaf}
 use Rattle.memory_ports.specs.declared.reads.ReadData.{ReadData}
 use Rattle.memory_ports.specs.Placing.{data_in, own_driver}
 use Rattle.memory_ports.specs.Sound.{ground_shape, flat_table, IsUInt, IsPlain, AreData, IsPortIn, held_leaves, IsSound}

@@ -21,9 +21,9 @@ use Rattle.ground_net.specs.declared.net.NetMemory.{NetMemory}
 use Rattle.ground_net.specs.declared.net.NetPort.{NetPort}
 use Rattle.ground_net.specs.declared.net.NetRead.{NetRead}
 use Rattle.ground_net.specs.Reads.{IsAssigned, driver_of}
-use Rattle.net_meaning.specs.Shapes.{Shape, shaped, shape}
-use Rattle.net_meaning.specs.Cycles.{Capture, captures}
-use Rattle.net_meaning.specs.Nets.{IsNet, IsPort, IsUnsigned, AreElements, HasRole, table_of, leaf_shape, element_shape, numbers_in, input_number, may_be_driven}
+use Rattle.ground_net.specs.Shapes.{Shape, shaped, shape}
+use Rattle.ground_net.specs.Cycles.{Capture, captures}
+use Rattle.ground_net.specs.Nets.{IsNet, IsPort, IsUnsigned, AreElements, HasRole, table_of, leaf_shape, element_shape, numbers_in, input_number, may_be_driven}
 use Rattle.memory_ports.specs.declared.reads.ReadData.{ReadData}
 use Rattle.memory_ports.specs.declared.reads.ReadData.TheVariants as read_data
 use Rattle.memory_ports.specs.Placing.{Shows, data_of, load_of, reads_of, IsRead, last_data, data_in, Part, Given, Without_value, Held, Kept, Driven, is_given, is_held, is_kept, part_of, parts_of, role_behind, own_driver, driver_for, IsLeafOf, without_word, IsPlaced}

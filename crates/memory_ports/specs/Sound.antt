@@ -13,8 +13,8 @@ use Rattle.ground_net.specs.declared.net.NetPort.{NetPort}
 use Rattle.ground_net.specs.declared.net.NetWrite.{NetWrite}
 use Rattle.ground_net.specs.declared.net.NetRead.{NetRead}
 use Rattle.ground_net.specs.Cones.{numbered}
-use Rattle.net_meaning.specs.Shapes.{Shape, shaped, Table, shape}
-use Rattle.net_meaning.specs.Nets.{element_shape}
+use Rattle.ground_net.specs.Shapes.{Shape, shaped, Table, shape}
+use Rattle.ground_net.specs.Nets.{element_shape}
 use Rattle.memory_ports.specs.Placing.{Shows, reads_of, data_in, own_driver, parts_of, Part, is_held}
 
 -- the kind and the width of a leaf

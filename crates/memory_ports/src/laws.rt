@@ -2,8 +2,8 @@
 
 ghost use Rattle.std.specs.Prelude.{◌≡◌, ◌<◌, ℕ, ◌∷◌, [], ◌++◌, Some, None, true, false, length, slice_get};
 ghost use Rattle.bit_words.specs.Values.{integer_of};
-ghost use Rattle.cycle_values.specs.Values.{fitted};
-ghost use Rattle.cycle_values.specs.Ports.{read_by_port};
+ghost use Rattle.prim_ops.specs.Values.{fitted};
+ghost use Rattle.prim_ops.specs.Ports.{read_by_port};
 ghost use Rattle.ground_net.specs.declared.circuit.FlatCircuit.{FlatCircuit as TheCircuit};
 ghost use Rattle.ground_net.specs.declared.circuit.GroundMemory.{GroundMemory as TheGroundMemory};
 ghost use Rattle.ground_net.specs.declared.net.Net.{Net as TheNet};
@@ -15,8 +15,8 @@ ghost use Rattle.ground_net.specs.declared.net.Role.TheVariants.{Captured};
 ghost use Rattle.ground_net.specs.Grounds.{value, mentions};
 ghost use Rattle.ground_net.specs.Reads.{IsAssigned, driver_of};
 ghost use Rattle.ground_net.specs.Cones.{or_no_leaf};
-ghost use Rattle.net_meaning.specs.Cycles.{NetState, Valuation, instant_of, shown, captures};
-ghost use Rattle.net_meaning.specs.Nets.{IsNet, IsWithin, HasRole};
+ghost use Rattle.ground_net.specs.Cycles.{NetState, Valuation, instant_of, shown, captures};
+ghost use Rattle.ground_net.specs.Nets.{IsNet, IsWithin, HasRole};
 ghost use Rattle.memory_ports.specs.Placing.{load_of, data_of, IsRead, data_in, IsPlaced};
 ghost use Rattle.memory_ports.specs.Sound.{IsSound};
 

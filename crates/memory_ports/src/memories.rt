@@ -2,8 +2,8 @@
 
 ghost use Rattle.std.specs.Prelude.{◌≡◌, ◌+◌, ◌*◌, ◌≤◌, ◌∷◌, [], ℕ, map, take, sum_by, length, nat_lt, slice_get, Some, IfOk, if◌then◌else◌};
 ghost use Rattle.ground_net.specs.declared.net.NetMemory.{NetMemory as TheMemory};
-ghost use Rattle.net_meaning.specs.Nets.{shape_or_none, element_shape};
-ghost use Rattle.net_meaning.specs.Words.{count_words, memory_words};
+ghost use Rattle.ground_net.specs.Nets.{shape_or_none, element_shape};
+ghost use Rattle.ground_net.specs.Words.{count_words, memory_words};
 ghost use Rattle.memory_ports.specs.Placing.{without_word};
 
 use bit_words::List;

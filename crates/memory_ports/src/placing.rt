@@ -1,7 +1,7 @@
 //! Flat circuits as nets.
 
 ghost use Rattle.std.specs.Prelude.{IfOk};
-ghost use Rattle.net_meaning.specs.Nets.{IsNet};
+ghost use Rattle.ground_net.specs.Nets.{IsNet};
 ghost use Rattle.memory_ports.specs.Placing.{IsPlaced};
 ghost use Rattle.memory_ports.specs.Sound.{IsSound};
 

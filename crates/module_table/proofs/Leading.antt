@@ -17,8 +17,8 @@ use Rattle.fir_tree.specs.declared.expr.Suffix.{Suffix}
 use Rattle.fir_tree.specs.declared.expr.Suffix.TheVariants as suffix
 use Rattle.fir_tree.specs.declared.part.Part.{Part}
 use Rattle.fir_tree.proofs.Shapes.{ShapeCase, shape_uint, shape_sint, shape_clock, shape_reset, shape_async, shape_bundle, shape_vector, case_of}
-use Rattle.type_classes.specs.Numbers.{Table, HasNumber}
-use Rattle.type_classes.specs.Tables.{IsField, IsElement, FieldHas, ElementHas}
+use Rattle.type_index.specs.Numbers.{Table, HasNumber}
+use Rattle.type_index.specs.Tables.{IsField, IsElement, FieldHas, ElementHas}
 use Rattle.type_index.specs.Knowing.{fields_in, element_in}
 use Rattle.module_table.specs.declared.components.Noted.{Noted}
 use Rattle.module_table.specs.Components.{Parts, part_noted, parts_of, AreClassed}

@@ -10,7 +10,7 @@ use Rattle.fir_tree.specs.declared.part.Part.{Part}
 use Rattle.fir_tree.specs.Parts.{source_of, instance_part}
 use Rattle.std.proofs.Math.Logic.{∥∥₁_map}
 use Rattle.fir_tree.specs.LeafNames.{Texts}
-use Rattle.type_classes.specs.Numbers.{Table, HasNumber}
+use Rattle.type_index.specs.Numbers.{Table, HasNumber}
 use Rattle.module_table.specs.declared.components.Noted.{Noted}
 use Rattle.module_table.specs.declared.modules.Instance.{Instance}
 use Rattle.module_table.specs.Components.{Parts, Environment, part_noted, parts_of, with_part, HasClass, AreClassed}

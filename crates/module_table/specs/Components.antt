@@ -7,7 +7,7 @@ use Rattle.fir_tree.specs.contracts.circuit.Module.{the_row as module_row}
 use Rattle.fir_tree.specs.declared.part.Part.{Part}
 use Rattle.fir_tree.specs.contracts.part.Part.{the_row as part_row}
 use Rattle.fir_tree.specs.Parts.{part_of}
-use Rattle.type_classes.specs.Numbers.{Table, HasNumber}
+use Rattle.type_index.specs.Numbers.{Table, HasNumber}
 use Rattle.module_table.specs.declared.components.Component.{Component}
 use Rattle.module_table.specs.declared.components.Noted.{Noted}
 use Rattle.module_table.specs.Tables.{with_new}

@@ -9,8 +9,8 @@ use Rattle.fir_tree.specs.declared.expr.Form.TheVariants as form
 use Rattle.fir_tree.specs.declared.expr.Suffix.{Suffix}
 use Rattle.fir_tree.specs.declared.expr.Suffix.TheVariants as suffix
 use Rattle.fir_tree.specs.declared.part.Part.{Part}
-use Rattle.type_classes.specs.Numbers.{Table, HasNumber}
-use Rattle.type_classes.specs.Tables.{IsField, IsElement}
+use Rattle.type_index.specs.Numbers.{Table, HasNumber}
+use Rattle.type_index.specs.Tables.{IsField, IsElement}
 use Rattle.module_table.specs.declared.components.Noted.{Noted}
 use Rattle.module_table.specs.Components.{Parts, AreClassed}
 

@@ -5,7 +5,7 @@ use Rattle.fir_tree.specs.declared.circuit.Module.{Module}
 use Rattle.fir_types.specs.declared.fir_type.FirType.{FirType}
 use Rattle.fir_types.specs.Bundles.{instance_of}
 use Rattle.fir_tree.specs.LeafNames.{Texts}
-use Rattle.type_classes.specs.Numbers.{Table, HasNumber}
+use Rattle.type_index.specs.Numbers.{Table, HasNumber}
 use Rattle.type_index.specs.Knowing.{HasWays}
 use Rattle.type_index.specs.declared.known_type.KnownType.{KnownType}
 use Rattle.module_table.specs.declared.modules.Instance.{Instance}

@@ -43,7 +43,7 @@ pub struct Components<'a> {
 
 impl<'a> Model for Components<'a> {
     ghost use Rattle.module_table.specs.Components.{Environment, environment_code, parts_of, AreClassed};
-    ghost use Rattle.type_classes.specs.Sights.{table_of};
+    ghost use Rattle.type_index.specs.Sights.{table_of};
 
     ghost Value = { Environment };
 

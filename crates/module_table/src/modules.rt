@@ -5,15 +5,14 @@ ghost use Rattle.std.specs.Option.{option_copied};
 ghost use Rattle.std.specs.Coded.{Coded-set, coded_list};
 ghost use Rattle.fir_types.specs.contracts.fir_type.FirType.{the_row as type_row};
 ghost use Rattle.module_table.specs.Tables.{IsIndex, named, bundle_of, with_new, typ_of, instance_typ, IsInstance};
-ghost use Rattle.type_classes.specs.Sights.{table_of};
+ghost use Rattle.type_index.specs.Sights.{table_of};
 ghost use Rattle.type_index.specs.Knowing.{HasWays};
 
 use fir_tree::{Module, Names};
 use fir_types::instance_type;
 use indexmap::IndexMap;
 use std::alloc::{AllocError, Global};
-use type_classes::Classes;
-use type_index::KnownType;
+use type_index::{Classes, KnownType};
 
 /// The type of the instances of a module, with the number of its class, where it has one.
 #[derive(Drop)]

@@ -2,15 +2,14 @@
 
 ghost use Rattle.std.specs.Prelude.{IfSome};
 ghost use Rattle.fir_types.specs.declared.fir_type.FirType.{FirType as AType};
-ghost use Rattle.type_classes.specs.Numbers.{HasNumber};
-ghost use Rattle.type_classes.specs.Sights.{table_of};
+ghost use Rattle.type_index.specs.Numbers.{HasNumber};
+ghost use Rattle.type_index.specs.Sights.{table_of};
 ghost use Rattle.module_table.specs.Leading.{IsReference, IsBehind, AreBehind, ClassBehind, ClassAlong, LeadsClass};
 
 use crate::components::Noted;
 use fir_tree::{Expr, Form, Suffix};
 use indexmap::IndexMap;
-use type_classes::Classes;
-use type_index::Known;
+use type_index::{Classes, Known};
 
 /// A component, given by the number of its name, and the steps to one of its parts.
 #[derive(Clone, Copy)]

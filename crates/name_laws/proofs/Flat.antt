@@ -15,7 +15,7 @@ use Rattle.ground_net.specs.declared.net.Net.{Net}
 use Rattle.ground_net.specs.declared.net.Leaf.{Leaf}
 use Rattle.ground_net.specs.declared.net.NetMemory.{NetMemory}
 use Rattle.ground_net.specs.declared.net.ElementLeaf.{ElementLeaf}
-use Rattle.net_meaning.proofs.Settling.{get_there}
+use Rattle.ground_net.proofs.Settling.{get_there}
 use Rattle.net_of_circuit.specs.FlatOrder.{all_leaves, all_memories, flat_of}
 use Rattle.net_of_circuit.specs.NetOf.{IsNetOf, path_text, flat_text}
 use Rattle.name_laws.specs.Names.{no_break, IsName, IsUnbroken}

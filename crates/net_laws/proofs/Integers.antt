@@ -5,7 +5,7 @@ use Rattle.bit_words.specs.declared.value.Kind.{Kind}
 use Rattle.bit_words.specs.declared.value.Kind.TheVariants.{Unsigned, Signed}
 use Rattle.bit_words.specs.Values.{integer, integer_of, bits_of, fit_of, InRange}
 use Rattle.bit_words.proofs.Congruence.{fit_same, fit_in_range, bits_below}
-use Rattle.cycle_values.specs.Values.{fitted}
+use Rattle.prim_ops.specs.Values.{fitted}
 
 least : (width : ℕ) → width ≤ 128 → min width 128 ≡ width
 least width h = grind (arith, common_steps, h)

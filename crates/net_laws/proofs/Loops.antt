@@ -10,7 +10,7 @@ use Rattle.ground_net.specs.declared.net.Net.{Net}
 use Rattle.ground_net.specs.declared.net.Leaf.{Leaf}
 use Rattle.ground_net.specs.Reads.{IsAssigned, Through, itself, others, IsFirstLoop}
 use Rattle.ground_net.specs.Reads as net_reads
-use Rattle.net_meaning.proofs.Loops.{through_assigned}
+use Rattle.ground_net.proofs.Loops.{through_assigned}
 use Rattle.net_of_circuit.specs.FlatOrder.{Placed, Standing, all_leaves, flat_of, ListsLeaves}
 use Rattle.net_of_circuit.specs.NetOf.{IsNetOf}
 use Rattle.net_laws.specs.Typed.{IsTyped}

@@ -15,7 +15,7 @@ use Rattle.fir_types.specs.declared.memory.Under.TheVariants as under
 use Rattle.fir_types.specs.Leaves.{leaves}
 use Rattle.fir_types.specs.Memories.{depth_of, under_of}
 use Rattle.fir_types.specs.Bundles.{addr_name, en_name, wmode_name}
-use Rattle.cycle_values.specs.Ports.{Held as Contents, Shown, after_port, after_ports, read_by_port, set_to_write, set_to_read}
+use Rattle.prim_ops.specs.Ports.{Held as Contents, Shown, after_port, after_ports, read_by_port, set_to_write, set_to_read}
 use Rattle.fir_tree.specs.LeafNames.{Texts}
 use Rattle.fir_meaning.specs.Components.{Design, TypedModule, Component, Sort, An_input, An_output, A_wire, A_register, A_reset_register, A_memory, An_instance, A_node, flat_through, component_named, target_of, target_in, module_at}
 use Rattle.fir_meaning.specs.Values.{Valuation, scene_of}
@@ -30,10 +30,10 @@ use Rattle.ground_net.specs.declared.net.NetMemory.{NetMemory}
 use Rattle.ground_net.specs.declared.net.NetPort.{NetPort}
 use Rattle.ground_net.specs.declared.net.NetRead.{NetRead}
 use Rattle.ground_net.specs.Grounds.{Instant}
-use Rattle.net_meaning.specs.Cycles.{NetState, Capture, instant_of, captures, is_set, integer_at, is_set_at, written_leaf, mask_leaf, where_it_writes, where_it_reads}
-use Rattle.net_meaning.specs.Cycles as cycle
-use Rattle.net_meaning.specs.Nets.{IsNet, HasRole}
-use Rattle.net_meaning.proofs.Ranges.{ComesFrom, capture_from}
+use Rattle.ground_net.specs.Cycles.{NetState, Capture, instant_of, captures, is_set, integer_at, is_set_at, written_leaf, mask_leaf, where_it_writes, where_it_reads}
+use Rattle.ground_net.specs.Cycles as cycle
+use Rattle.ground_net.specs.Nets.{IsNet, HasRole}
+use Rattle.ground_net.proofs.Ranges.{ComesFrom, capture_from}
 use Rattle.net_of_circuit.specs.FlatOrder.{Placed, Standing, all_leaves, all_memories, memory_in, ListsLeaves}
 use Rattle.net_of_circuit.specs.NetOf.{IsSeen, IsNetWith, MatchingState, Names, NameAll, IsPortOf, IsMemoryOf, may_write, may_read, has_mode, read_field, is_new, seen_valuation}
 use Rattle.net_laws.specs.Typed.{IsTyped}

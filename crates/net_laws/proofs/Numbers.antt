@@ -8,7 +8,7 @@ use Rattle.fir_types.specs.declared.leaf.PathStep.TheVariants as step
 use Rattle.fir_meaning.specs.Components.{Design, FlatLeaf}
 use Rattle.fir_meaning.specs.Drives.{same_step, same_way}
 use Rattle.ground_net.specs.Grounds.{Instant}
-use Rattle.net_meaning.specs.Cycles.{integer_at}
+use Rattle.ground_net.specs.Cycles.{integer_at}
 use Rattle.net_of_circuit.specs.FlatOrder.{Placed, Standing, all_leaves, flat_of, same_path, same_flat, number_in, ListsLeaves}
 use Rattle.net_of_circuit.specs.NetOf.{valuation_of}
 

@@ -20,8 +20,8 @@ use Rattle.ground_net.specs.declared.net.Role.{Role}
 use Rattle.ground_net.specs.declared.net.Role.TheVariants as role
 use Rattle.ground_net.specs.declared.net.Net.{Net}
 use Rattle.ground_net.specs.Watching.{is_shown, told_where, port_leaf, watched}
-use Rattle.net_meaning.specs.Cycles.{NetState, instant_of}
-use Rattle.net_meaning.specs.Cycles as cycle
+use Rattle.ground_net.specs.Cycles.{NetState, instant_of}
+use Rattle.ground_net.specs.Cycles as cycle
 use Rattle.net_of_circuit.specs.FlatOrder.{Placed, InFlatOrder, no_more, one_more, an_instance, Standing, all_leaves, flat_of, ListsLeaves}
 use Rattle.net_of_circuit.specs.NetOf.{Part, Given, Without_value, part_of_role, part_of, is_input_of_main, is_of_port, is_of_main, IsNetWith, seen_valuation}
 use Rattle.net_laws.specs.Typed.{HasPortsFirst}

@@ -6,7 +6,7 @@ use Rattle.std.proofs.lemmas.Bool.{cases_eq}
 use Rattle.place_text.specs.declared.place.Place.{Place}
 use Rattle.ground_net.specs.declared.net.Net.{Net}
 use Rattle.ground_net.specs.Reads.{Reads, Through, itself, others, IsOnLoop, HasNoLoop, IsFirstLoop, direct_reads}
-use Rattle.net_meaning.proofs.Loops.{through_assigned}
+use Rattle.ground_net.proofs.Loops.{through_assigned}
 use Rattle.net_laws.proofs.Numbers.{below_length}
 
 not_later : (x : ℕ) (xs : List ℕ) (v : ℕ) → (x ≡ v → ⊥) → (Contains xs v → ⊥) → Contains (x ∷ xs) v → ⊥

@@ -17,7 +17,7 @@ use Rattle.fir_types.specs.declared.memory.Memory.{Memory}
 use Rattle.fir_types.specs.Leaves.{leaves}
 use Rattle.fir_types.specs.Memories.{read_latency_of}
 use Rattle.fir_tree.specs.declared.expr.Expr.{Expr}
-use Rattle.cycle_values.specs.Shapes.{Shape, shape_of_value}
+use Rattle.prim_ops.specs.Shapes.{Shape, shape_of_value}
 use Rattle.fir_tree.specs.LeafNames.{Texts}
 use Rattle.fir_meaning.specs.Components.{Design, TypedModule, Component, FlatLeaf, Sort, An_input, An_output, A_wire, A_register, A_reset_register, A_memory, An_instance, A_node, flow_of, is_clock, width_of_leaf, is_clock_shape, width_of_shape, flat, flat_through, component_named, target_in, module_at, HasBundles}
 use Rattle.fir_meaning.specs.Values.{Valuation, scene_of, value}
@@ -33,9 +33,9 @@ use Rattle.ground_net.specs.declared.net.Role.{Role}
 use Rattle.ground_net.specs.declared.net.Role.TheVariants as role
 use Rattle.ground_net.specs.declared.net.Net.{Net}
 use Rattle.ground_net.specs.Reads.{driver_of}
-use Rattle.net_meaning.specs.Cycles.{NetState, Capture, instant_of, captures}
-use Rattle.net_meaning.specs.Cycles as cycle
-use Rattle.net_meaning.specs.Nets.{IsNet, HasRole, AreInputs, register_shapes, captured_shapes, shape_or_none, leaf_shape as net_shape}
+use Rattle.ground_net.specs.Cycles.{NetState, Capture, instant_of, captures}
+use Rattle.ground_net.specs.Cycles as cycle
+use Rattle.ground_net.specs.Nets.{IsNet, HasRole, AreInputs, register_shapes, captured_shapes, shape_or_none, leaf_shape as net_shape}
 use Rattle.net_of_circuit.specs.FlatOrder.{Placed, Standing, all_leaves, flat_of, ListsLeaves}
 use Rattle.net_of_circuit.specs.NetOf.{Part, Given, Without_value, Held, Kept, Driven, part_of_role, part_of, is_input_of_main, is_late_read, MatchingInputs, IsSeen, IsNetWith, seen_valuation}
 use Rattle.net_laws.specs.Typed.{IsTyped}

@@ -13,12 +13,12 @@ use Rattle.ground_net.specs.declared.net.Net.{Net}
 use Rattle.ground_net.specs.declared.net.Role.TheVariants as role
 use Rattle.ground_net.specs.Reads.{Through, itself, others, IsOrder}
 use Rattle.ground_net.specs.Watching.{watched}
-use Rattle.net_meaning.specs.Cycles.{NetState, instant_of, HasOneSettled as NetHasOne}
-use Rattle.net_meaning.specs.Cycles as net_cycle
-use Rattle.net_meaning.specs.Nets.{IsWithin, HasRole, AreInputs, register_shapes, shape_or_none, leaf_shape as net_shape}
-use Rattle.net_meaning.proofs.Loops.{no_loop}
-use Rattle.net_meaning.proofs.Mentioning.{one_of_net}
-use Rattle.net_meaning.proofs.Ranges.{next_within, settled_has}
+use Rattle.ground_net.specs.Cycles.{NetState, instant_of, HasOneSettled as NetHasOne}
+use Rattle.ground_net.specs.Cycles as net_cycle
+use Rattle.ground_net.specs.Nets.{IsWithin, HasRole, AreInputs, register_shapes, shape_or_none, leaf_shape as net_shape}
+use Rattle.ground_net.proofs.Loops.{no_loop}
+use Rattle.ground_net.proofs.Mentioning.{one_of_net}
+use Rattle.ground_net.proofs.Ranges.{next_within, settled_has}
 use Rattle.net_of_circuit.specs.FlatOrder.{Placed, Standing, all_leaves, all_memories, flat_of, ListsLeaves}
 use Rattle.net_of_circuit.specs.NetOf.{IsNetOf, IsSeen, MatchingState, MatchingInputs, seen_valuation}
 use Rattle.net_laws.specs.Typed.{IsTyped}

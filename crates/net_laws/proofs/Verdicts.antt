@@ -1,9 +1,9 @@
 -- The verdict over a net that serves a circuit is one over the circuit.
 use Rattle.std.proofs.Common.{ℕ, List, ◌⊎◌, inl, inr, ⊎_elim}
 use Rattle.std.specs.Prelude.{Result, Ok, Err}
-use Rattle.fault_order.specs.First.{IsFirst}
-use Rattle.fault_order.specs.Verdicts.{IsVerdict}
-use Rattle.fault_order.proofs.Verdicts.{passes}
+use Rattle.place_text.specs.First.{IsFirst}
+use Rattle.place_text.specs.Verdicts.{IsVerdict}
+use Rattle.place_text.proofs.Verdicts.{passes}
 use Rattle.fir_tree.specs.LeafNames.{Texts}
 use Rattle.place_text.specs.declared.place.Place.{Place}
 use Rattle.fir_meaning.specs.Components.{Design}
@@ -11,7 +11,7 @@ use Rattle.fir_meaning.specs.Loops.{HasNoLoop}
 use Rattle.ground_net.specs.declared.net.Net.{Net}
 use Rattle.ground_net.specs.declared.net.Ordered.{Ordered}
 use Rattle.ground_net.specs.Reads.{IsOrder}
-use Rattle.net_meaning.proofs.Mentioning.{mentions_leaves}
+use Rattle.ground_net.proofs.Mentioning.{mentions_leaves}
 use Rattle.net_laws.specs.Serves.{Serves}
 use Rattle.comb_order.specs.declared.fault.OrderFault.{OrderFault}
 use Rattle.comb_order.specs.declared.fault.OrderFault.TheVariants.{CombLoop, NoMemory}

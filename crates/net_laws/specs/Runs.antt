@@ -2,9 +2,9 @@
 use Rattle.std.specs.Prelude.{ℕ, List, [], ◌∷◌, map}
 use Rattle.bit_words.specs.declared.value.Value.{Value}
 use Rattle.ground_net.specs.declared.net.Net.{Net}
-use Rattle.net_meaning.specs.Cycles.{NetState, Inputs, Valuation, Settled, instant_of, next}
+use Rattle.ground_net.specs.Cycles.{NetState, Inputs, Valuation, Settled, instant_of, next}
 use Rattle.fir_meaning.specs.States as tree
-use Rattle.net_meaning.specs.Nets.{AreInputs}
+use Rattle.ground_net.specs.Nets.{AreInputs}
 use Rattle.net_of_circuit.specs.FlatOrder.{Standing}
 use Rattle.net_of_circuit.specs.NetOf.{MatchingInputs}
 

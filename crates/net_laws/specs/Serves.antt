@@ -3,7 +3,7 @@ use Rattle.fir_meaning.specs.Components.{Design, HasBundles}
 use Rattle.fir_meaning.specs.States.{State}
 use Rattle.fir_tree.specs.LeafNames.{Texts}
 use Rattle.ground_net.specs.declared.net.Net.{Net}
-use Rattle.net_meaning.specs.Cycles.{NetState}
+use Rattle.ground_net.specs.Cycles.{NetState}
 use Rattle.net_of_circuit.specs.FlatOrder.{all_leaves, all_memories, ListsLeaves}
 use Rattle.net_of_circuit.specs.NetOf.{IsNetOf, MatchingState}
 use Rattle.net_laws.specs.Typed.{IsTyped}

@@ -4,7 +4,7 @@ use Rattle.fir_types.specs.declared.leaf.TypeLeaf.{TypeLeaf}
 use Rattle.fir_types.specs.declared.memory.Memory.{Memory}
 use Rattle.fir_types.specs.Leaves.{leaves}
 use Rattle.fir_tree.specs.declared.expr.Expr.{Expr}
-use Rattle.cycle_values.specs.Shapes.{shape_of_value}
+use Rattle.prim_ops.specs.Shapes.{shape_of_value}
 use Rattle.fir_meaning.specs.Components.{Design, TypedModule, Component, A_memory, A_node, is_clock, component_named, module_at, module_named}
 use Rattle.fir_meaning.specs.Values.{Valuation, scene_of, value}
 use Rattle.fir_meaning.specs.MemoryPorts.{MemoryPort, memory_ports, port_named}

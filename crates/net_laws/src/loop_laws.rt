@@ -2,7 +2,7 @@
 
 ghost use Rattle.std.specs.Prelude.{◌≡◌, ◌⊎◌, ℕ, List, Result, slice_get, Some};
 ghost use Rattle.place_text.specs.declared.place.Place.{Place as ThePlace};
-ghost use Rattle.fault_order.specs.Verdicts.{IsVerdict};
+ghost use Rattle.place_text.specs.Verdicts.{IsVerdict};
 ghost use Rattle.fir_tree.specs.LeafNames.{Texts};
 ghost use Rattle.fir_meaning.specs.Components.{Design};
 ghost use Rattle.fir_meaning.specs.Loops.{HasNoLoop};

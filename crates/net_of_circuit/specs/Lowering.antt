@@ -17,7 +17,7 @@ use Rattle.fir_tree.specs.declared.expr.Expr.{Expr}
 use Rattle.fir_tree.specs.declared.scope.Fitted.{Fitted}
 use Rattle.fir_names.specs.Scopes.{Means}
 use Rattle.fir_tree.specs.LeafNames.{Texts, text_of, way_text, leaf_text}
-use Rattle.cycle_values.specs.Values.{is_one as is_one_value}
+use Rattle.prim_ops.specs.Values.{is_one as is_one_value}
 use Rattle.fir_meaning.specs.Components.{TypedModule, Component, Leaf, Sort, A_register, A_reset_register, A_node, is_clock, kind_of_leaf, width_of_leaf, type_in, modules_of}
 use Rattle.fir_meaning.specs.Values as tree
 use Rattle.fir_meaning.specs.Values.{whole}
@@ -44,8 +44,8 @@ use Rattle.ground_net.specs.declared.net.NetRead.{NetRead}
 use Rattle.ground_net.specs.declared.net.ElementLeaf.{ElementLeaf}
 use Rattle.ground_net.specs.Grounds.{Instant, value, mentions, joined}
 use Rattle.ground_net.specs.Statements.{drives, live}
-use Rattle.net_meaning.specs.Shapes.{Table, HasShapes, shape, shaped}
-use Rattle.net_meaning.specs.StatementShapes.{is_shaped}
+use Rattle.ground_net.specs.Shapes.{Table, HasShapes, shape, shaped}
+use Rattle.ground_net.specs.StatementShapes.{is_shaped}
 use Rattle.net_of_circuit.specs.NetOf.{may_write, may_read, has_mode, read_field, is_new}
 use Rattle.net_of_circuit.specs.Numbers.{ModuleLeaf, module_leaves, number_of, scene_at, role_of, is_set, table_of, SameReads, leaves_before, memory_parts, instance_parts, register_numbers}
 

@@ -39,11 +39,11 @@ use Rattle.ground_net.specs.Grounds.{Instant}
 use Rattle.ground_net.specs.Grounds as net_values
 use Rattle.ground_net.specs.Reads.{Reads, driver_of}
 use Rattle.ground_net.specs.Cones.{register_needs}
-use Rattle.net_meaning.specs.Shapes.{HasShapes}
-use Rattle.net_meaning.specs.Cycles.{NetState, instant_of, integer_at}
-use Rattle.net_meaning.specs.Cycles as cycle
-use Rattle.net_meaning.specs.Nets.{IsNet, IsWithin, HasRole, table_of}
-use Rattle.net_meaning.specs.Words.{SaysItsWords}
+use Rattle.ground_net.specs.Shapes.{HasShapes}
+use Rattle.ground_net.specs.Cycles.{NetState, instant_of, integer_at}
+use Rattle.ground_net.specs.Cycles as cycle
+use Rattle.ground_net.specs.Nets.{IsNet, IsWithin, HasRole, table_of}
+use Rattle.ground_net.specs.Words.{SaysItsWords}
 use Rattle.net_of_circuit.specs.FlatOrder.{Placed, InFlatOrder, Standing, all_leaves, all_memories, flat_of, number_in}
 
 -- Roles

@@ -12,8 +12,8 @@ use Rattle.ground_net.specs.declared.circuit.GroundRole.{GroundRole}
 use Rattle.ground_net.specs.declared.circuit.GroundRole.TheVariants.{Input, Clock, Register, Plain}
 use Rattle.ground_net.specs.Grounds.{Instant}
 use Rattle.ground_net.specs.Cones.{numbered}
-use Rattle.net_meaning.specs.Shapes.{Shape, Table, shaped}
-use Rattle.net_meaning.specs.Cycles.{integer_at}
+use Rattle.ground_net.specs.Shapes.{Shape, Table, shaped}
+use Rattle.ground_net.specs.Cycles.{integer_at}
 
 -- a leaf with its component
 abbrev pub ModuleLeaf : Type 0

@@ -5,9 +5,9 @@ use Rattle.bit_words.specs.declared.value.Value.{Value}
 use Rattle.ground_net.specs.declared.net.Net.{Net}
 use Rattle.ground_net.specs.declared.net.NetMemory.{NetMemory}
 use Rattle.ground_net.specs.Grounds.{Instant}
-use Rattle.net_meaning.specs.Nets.{IsNet}
-use Rattle.net_meaning.specs.Cycles.{NetState, instant_of, next, next_of_memory}
-use Rattle.net_meaning.proofs.Settling.{get_there}
+use Rattle.ground_net.specs.Nets.{IsNet}
+use Rattle.ground_net.specs.Cycles.{NetState, instant_of, next, next_of_memory}
+use Rattle.ground_net.proofs.Settling.{get_there}
 use Rattle.net_run.specs.declared.kept.Kept.{Kept}
 use Rattle.net_run.specs.Seeing.{AreSeen, value_at}
 use Rattle.net_run.specs.Keeping.{AreContents, IsKept}

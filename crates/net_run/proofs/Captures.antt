@@ -7,8 +7,8 @@ use Rattle.std.proofs.lemmas.List.{length-append, length-map, append_assoc}
 use Rattle.std.proofs.lemmas.Option.{get_or_from_slice_get, slice_get-map, slice_get_within}
 use Rattle.bit_words.specs.declared.value.Value.{Value}
 use Rattle.bit_words.specs.Values.{integer_of}
-use Rattle.cycle_values.specs.Values.{fitted, lone}
-use Rattle.cycle_values.specs.Ports.{Held, set_to_read, read_by_port}
+use Rattle.prim_ops.specs.Values.{fitted, lone}
+use Rattle.prim_ops.specs.Ports.{Held, set_to_read, read_by_port}
 use Rattle.ground_net.specs.declared.net.Net.{Net}
 use Rattle.ground_net.specs.declared.net.Leaf.{Leaf}
 use Rattle.ground_net.specs.declared.net.NetMemory.{NetMemory}
@@ -18,11 +18,11 @@ use Rattle.ground_net.specs.declared.net.ElementLeaf.{ElementLeaf}
 use Rattle.ground_net.specs.Grounds.{Instant}
 use Rattle.ground_net.specs.Cones.{numbered}
 use Rattle.ground_net.proofs.Layers.{maps}
-use Rattle.net_meaning.specs.Shapes.{Shape}
-use Rattle.net_meaning.specs.Nets.{IsNet, leaf_shape, element_shape}
-use Rattle.net_meaning.specs.Cycles.{NetState, Capture, captures, captured_by, instant_of, fitted_to, shown, next_of_capture, next_of_memory, taken, is_set, where_it_reads}
-use Rattle.net_meaning.proofs.Settling.{get_there}
-use Rattle.net_meaning.proofs.Ranges.{capture_from}
+use Rattle.ground_net.specs.Shapes.{Shape}
+use Rattle.ground_net.specs.Nets.{IsNet, leaf_shape, element_shape}
+use Rattle.ground_net.specs.Cycles.{NetState, Capture, captures, captured_by, instant_of, fitted_to, shown, next_of_capture, next_of_memory, taken, is_set, where_it_reads}
+use Rattle.ground_net.proofs.Settling.{get_there}
+use Rattle.ground_net.proofs.Ranges.{capture_from}
 use Rattle.net_run.specs.Seeing.{AreSeen, value_at, held_leaf}
 use Rattle.net_run.specs.Keeping.{AreContents}
 use Rattle.net_run.specs.Capturing.{is_reading, read_leaf, when_taken, up_to, leaves_taken, read_taken, ports_taken, memory_taken, memories_taken, one_taken, all_taken}

@@ -1,4 +1,5 @@
 mod Forms
+mod Places
 mod Steps
 mod Zeros
 mod Nexts

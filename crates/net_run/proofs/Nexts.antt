@@ -6,8 +6,8 @@ use Rattle.std.proofs.lemmas.List.{length-append}
 use Rattle.std.proofs.lemmas.Option.{get_or_from_slice_get, slice_get_within}
 use Rattle.bit_words.specs.declared.value.Value.{Value}
 use Rattle.bit_words.specs.Values.{integer_of}
-use Rattle.cycle_values.specs.Values.{fitted, lone, is_one}
-use Rattle.cycle_values.proofs.Fittings.{refitted}
+use Rattle.prim_ops.specs.Values.{fitted, lone, is_one}
+use Rattle.prim_ops.proofs.Fittings.{refitted}
 use Rattle.ground_net.specs.declared.net.Net.{Net}
 use Rattle.ground_net.specs.declared.net.Leaf.{Leaf}
 use Rattle.ground_net.specs.declared.net.NetRegister.{NetRegister}
@@ -16,10 +16,10 @@ use Rattle.ground_net.specs.declared.ground.Ground.{Ground}
 use Rattle.ground_net.specs.Grounds.{Instant, value}
 use Rattle.ground_net.specs.Reads.{driver_of}
 use Rattle.ground_net.proofs.Layers.{value_agrees}
-use Rattle.net_meaning.specs.Shapes.{Shape, shape}
-use Rattle.net_meaning.specs.Nets.{IsNet, table_of, leaf_shape}
-use Rattle.net_meaning.specs.Cycles.{NetState, instant_of, fitted_to, next, next_of_register, after_reset, driven_or}
-use Rattle.net_meaning.proofs.Shaping.{shapes_hold}
+use Rattle.ground_net.specs.Shapes.{Shape, shape}
+use Rattle.ground_net.specs.Nets.{IsNet, table_of, leaf_shape}
+use Rattle.ground_net.specs.Cycles.{NetState, instant_of, fitted_to, next, next_of_register, after_reset, driven_or}
+use Rattle.ground_net.proofs.Shaping.{shapes_hold}
 use Rattle.net_run.specs.declared.kept.Kept.{Kept}
 use Rattle.net_run.specs.Seeing.{AreSeen, seen, value_at}
 use Rattle.net_run.specs.Keeping.{IsKept}

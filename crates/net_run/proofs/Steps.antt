@@ -8,8 +8,8 @@ use Rattle.bit_words.proofs.Congruence.{bits_below}
 use Rattle.bit_words.specs.declared.value.Kind.TheVariants.{Unsigned}
 use Rattle.bit_words.specs.declared.value.Value.{Value}
 use Rattle.bit_words.specs.Values.{integer_of, bits_of}
-use Rattle.cycle_values.specs.Values.{fitted, lone}
-use Rattle.cycle_values.proofs.Fittings.{same_value}
+use Rattle.prim_ops.specs.Values.{fitted, lone}
+use Rattle.prim_ops.proofs.Fittings.{same_value}
 use Rattle.ground_net.specs.declared.net.Net.{Net}
 use Rattle.ground_net.specs.declared.net.Leaf.{Leaf}
 use Rattle.ground_net.specs.declared.net.Role.{Role}
@@ -20,11 +20,11 @@ use Rattle.ground_net.specs.declared.ground.Ground.{Ground}
 use Rattle.ground_net.specs.Grounds.{value}
 use Rattle.ground_net.specs.Reads.{IsAssigned, Reads, IsOrder, driver_of}
 use Rattle.ground_net.proofs.Layers.{value_agrees}
-use Rattle.net_meaning.specs.Shapes.{Shape, shape, shape_of_value}
-use Rattle.net_meaning.specs.Nets.{IsNet, table_of, leaf_shape, element_shape}
-use Rattle.net_meaning.specs.Cycles.{NetState, Inputs, Settled, instant_of, fitted_to, fitted_to_element, element_leaf, depth_of, held_at}
-use Rattle.net_meaning.proofs.Settling.{reads_mentions, le_split, get_there}
-use Rattle.net_meaning.proofs.Shaping.{fitted_shape, shapes_hold}
+use Rattle.ground_net.specs.Shapes.{Shape, shape, shape_of_value}
+use Rattle.ground_net.specs.Nets.{IsNet, table_of, leaf_shape, element_shape}
+use Rattle.ground_net.specs.Cycles.{NetState, Inputs, Settled, instant_of, fitted_to, fitted_to_element, element_leaf, depth_of, held_at}
+use Rattle.ground_net.proofs.Settling.{reads_mentions, le_split, get_there}
+use Rattle.ground_net.proofs.Shaping.{fitted_shape, shapes_hold}
 use Rattle.net_run.specs.declared.kept.Kept.{Kept}
 use Rattle.net_run.specs.Seeing.{AreSeen, seen, value_at, held_by, held_leaf}
 use Rattle.net_run.specs.Keeping.{IsKept, AreContents, AreInputValues, before_assignments, before_all, put_driven}

@@ -8,19 +8,19 @@ use Rattle.std.proofs.lemmas.Option.{get_or_from_slice_get, slice_get-get_or, sl
 use Rattle.bit_words.specs.declared.value.Kind.TheVariants.{Unsigned}
 use Rattle.bit_words.specs.declared.value.Value.{Value}
 use Rattle.bit_words.specs.Values.{integer, integer_of}
-use Rattle.cycle_values.specs.Values.{fitted, is_one}
-use Rattle.cycle_values.specs.Ports.{Held, after_port, after_ports}
-use Rattle.cycle_values.proofs.Fittings.{refitted}
+use Rattle.prim_ops.specs.Values.{fitted, is_one}
+use Rattle.prim_ops.specs.Ports.{Held, after_port, after_ports}
+use Rattle.prim_ops.proofs.Fittings.{refitted}
 use Rattle.ground_net.specs.declared.net.Net.{Net}
 use Rattle.ground_net.specs.declared.net.NetMemory.{NetMemory}
 use Rattle.ground_net.specs.declared.net.NetPort.{NetPort}
 use Rattle.ground_net.specs.declared.net.NetWrite.{NetWrite}
 use Rattle.ground_net.specs.declared.net.ElementLeaf.{ElementLeaf}
 use Rattle.ground_net.specs.Grounds.{Instant}
-use Rattle.net_meaning.specs.Shapes.{Shape, shape_of_value}
-use Rattle.net_meaning.specs.Nets.{IsPort, IsUnsigned, AreElements, leaf_shape, element_shape}
-use Rattle.net_meaning.specs.Cycles.{NetState, instant_of, is_set_at, integer_at, shown, where_it_writes, written_leaf, mask_leaf}
-use Rattle.net_meaning.proofs.Settling.{le_split, get_there}
+use Rattle.ground_net.specs.Shapes.{Shape, shape_of_value}
+use Rattle.ground_net.specs.Nets.{IsPort, IsUnsigned, AreElements, leaf_shape, element_shape}
+use Rattle.ground_net.specs.Cycles.{NetState, instant_of, is_set_at, integer_at, shown, where_it_writes, written_leaf, mask_leaf}
+use Rattle.ground_net.proofs.Settling.{le_split, get_there}
 use Rattle.net_run.specs.Seeing.{AreSeen, value_at}
 use Rattle.net_run.specs.Keeping.{AreContents, put_driven}
 use Rattle.net_run.specs.Writing.{written_value, put_leaves, put_element, is_set_to_write, over_port, over_ports}

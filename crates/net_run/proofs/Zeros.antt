@@ -7,7 +7,7 @@ use Rattle.std.proofs.lemmas.Bool.{cases_lt}
 use Rattle.std.proofs.lemmas.List.{length-map, length-append, map-append}
 use Rattle.std.proofs.lemmas.Option.{slice_get-map, slice_get_within}
 use Rattle.bit_words.specs.declared.value.Value.{Value}
-use Rattle.cycle_values.specs.Values.{fitted}
+use Rattle.prim_ops.specs.Values.{fitted}
 use Rattle.ground_net.specs.declared.net.Net.{Net}
 use Rattle.ground_net.specs.declared.net.NetRegister.{NetRegister}
 use Rattle.ground_net.specs.declared.net.NetMemory.{NetMemory}
@@ -16,7 +16,7 @@ use Rattle.ground_net.specs.declared.net.NetRead.{NetRead}
 use Rattle.ground_net.specs.declared.net.ElementLeaf.{ElementLeaf}
 use Rattle.ground_net.specs.Cones.{numbered}
 use Rattle.ground_net.proofs.Layers.{maps}
-use Rattle.net_meaning.specs.Cycles.{Capture, captures, captured_by, first_state}
+use Rattle.ground_net.specs.Cycles.{Capture, captures, captured_by, first_state}
 use Rattle.net_run.specs.declared.kept.Kept.{Kept}
 use Rattle.net_run.specs.Keeping.{IsKept, AreZeros, AreZeroMemories, zero_of, zeros_at, captured_of, zeros_of_ports, first_registers, first_captured, zero_element}
 

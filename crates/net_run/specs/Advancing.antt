@@ -1,7 +1,7 @@
 -- What is kept after a cycle.
 use Rattle.std.specs.Prelude.{◌≡◌, ℕ, ◌<◌, List, length, slice_get, Option, Some, None, if◌then◌else◌}
 use Rattle.bit_words.specs.declared.value.Value.{Value}
-use Rattle.cycle_values.specs.Values.{is_one}
+use Rattle.prim_ops.specs.Values.{is_one}
 use Rattle.ground_net.specs.declared.ground.Ground.{Ground}
 use Rattle.ground_net.specs.declared.net.Net.{Net}
 use Rattle.ground_net.specs.declared.net.Leaf.{Leaf}
@@ -9,7 +9,7 @@ use Rattle.ground_net.specs.declared.net.NetRegister.{NetRegister}
 use Rattle.ground_net.specs.declared.net.NetReset.{NetReset}
 use Rattle.ground_net.specs.Grounds.{Instant, value}
 use Rattle.ground_net.specs.Reads.{driver_of}
-use Rattle.net_meaning.specs.Cycles.{NetState, fitted_to}
+use Rattle.ground_net.specs.Cycles.{NetState, fitted_to}
 use Rattle.net_run.specs.Seeing.{value_at}
 
 -- the value of a register's driver, and what the register holds where it has none

@@ -1,8 +1,8 @@
 -- What captured reads take, as lists of values.
 use Rattle.std.specs.Prelude.{ℕ, zero, suc, ◌+◌, ◌*◌, ◌&&◌, nat_lt, Bool, List, [], ◌∷◌, ◌++◌, flat_map, length, get_or, slice_get, Option, Some, None, option_map, if◌then◌else◌}
 use Rattle.bit_words.specs.declared.value.Value.{Value}
-use Rattle.cycle_values.specs.Values.{is_one, lone}
-use Rattle.cycle_values.specs.Ports.{set_to_read}
+use Rattle.prim_ops.specs.Values.{is_one, lone}
+use Rattle.prim_ops.specs.Ports.{set_to_read}
 use Rattle.ground_net.specs.declared.net.NetMemory.{NetMemory}
 use Rattle.ground_net.specs.declared.net.NetPort.{NetPort}
 use Rattle.ground_net.specs.declared.net.NetRead.{NetRead}

@@ -1,8 +1,8 @@
 -- What is kept from a cycle to the next, as lists of values.
 use Rattle.std.specs.Prelude.{◌≡◌, ℕ, ◌+◌, ◌*◌, ◌<◌, List, [], map, flat_map, length, slice_get, slice_set, pos, Option, Some, None, if◌then◌else◌}
 use Rattle.bit_words.specs.declared.value.Value.{Value}
-use Rattle.cycle_values.specs.Values.{fitted, lone}
-use Rattle.cycle_values.specs.Ports.{Held}
+use Rattle.prim_ops.specs.Values.{fitted, lone}
+use Rattle.prim_ops.specs.Ports.{Held}
 use Rattle.ground_net.specs.declared.net.Net.{Net}
 use Rattle.ground_net.specs.declared.net.Leaf.{Leaf}
 use Rattle.ground_net.specs.declared.net.Role.{Role}
@@ -12,7 +12,7 @@ use Rattle.ground_net.specs.declared.net.NetMemory.{NetMemory}
 use Rattle.ground_net.specs.declared.net.ElementLeaf.{ElementLeaf}
 use Rattle.ground_net.specs.declared.net.NetPort.{NetPort}
 use Rattle.ground_net.specs.declared.net.NetRead.{NetRead}
-use Rattle.net_meaning.specs.Cycles.{NetState, Inputs, Capture, captures, fitted_to}
+use Rattle.ground_net.specs.Cycles.{NetState, Inputs, Capture, captures, fitted_to}
 use Rattle.net_run.specs.declared.kept.Kept.{Kept}
 use Rattle.net_run.specs.Seeing.{value_at}
 

@@ -2,19 +2,19 @@
 use Rattle.std.specs.Prelude.{◌≡◌, ℕ, ◌+◌, ◌*◌, ◌<◌, ◌≤◌, nat_lt, Bool, List, [], map, get_or, length, slice_get, unsigned_abs, pos, Option, Some, None, IsSome, All, if◌then◌else◌}
 use Rattle.bit_words.specs.declared.value.Value.{Value}
 use Rattle.bit_words.specs.Values.{integer_of}
-use Rattle.cycle_values.specs.Values.{fitted, lone}
+use Rattle.prim_ops.specs.Values.{fitted, lone}
 use Rattle.ground_net.specs.declared.ground.Ground.{Ground}
 use Rattle.ground_net.specs.declared.net.Net.{Net}
 use Rattle.ground_net.specs.declared.net.NetMemory.{NetMemory}
 use Rattle.ground_net.specs.declared.net.ElementLeaf.{ElementLeaf}
-use Rattle.ground_net.specs.Grounds.{Instant, value}
+use Rattle.ground_net.specs.Grounds.{Instant, value, place}
 use Rattle.prim_ops.specs.declared.operation.PrimOp.{PrimOp}
 use Rattle.prim_ops.specs.Operations.{arity_of}
 use Rattle.prim_ops.specs.Kinds.{row_kind}
 use Rattle.prim_ops.specs.Widths.{width_number, ParamsFit}
 use Rattle.prim_ops.specs.Results.{kinds_of, widths_of}
-use Rattle.net_meaning.specs.Shapes.{Table, HasShapes, shape}
-use Rattle.net_meaning.specs.Nets.{table_of}
+use Rattle.ground_net.specs.Shapes.{Table, HasShapes, shape}
+use Rattle.ground_net.specs.Nets.{table_of}
 
 -- the value of a number, and 0 of no bits where there is none
 abbrev pub value_at : List Value → ℕ → Value
@@ -45,6 +45,10 @@ AreShaped table items = All (λ g. IsSome (shape g table)) items
 -- the values of expressions
 abbrev pub values_of : List Ground → Instant → List Value
 values_of items instant = map (λ g. value g instant) items
+
+-- the place that values pick as indices
+abbrev pub placed : List Value → List ℕ → Option ℕ
+placed values lengths = place (map integer_of values) lengths
 
 -- Values that an operation of the table takes.
 pub record Applies (prim : PrimOp) (params : List ℕ) (values : List Value) : Type 0 where

@@ -1,8 +1,8 @@
 -- What the ports of a memory write, as lists of values.
 use Rattle.std.specs.Prelude.{ℕ, zero, suc, ◌+◌, ◌*◌, ◌&&◌, nat_lt, Bool, List, fold, map, zip, length, slice_get, Option, Some, None, option_map, if◌then◌else◌}
 use Rattle.bit_words.specs.declared.value.Value.{Value}
-use Rattle.cycle_values.specs.Values.{is_one}
-use Rattle.cycle_values.specs.Ports.{set_to_write}
+use Rattle.prim_ops.specs.Values.{is_one}
+use Rattle.prim_ops.specs.Ports.{set_to_write}
 use Rattle.ground_net.specs.declared.net.NetMemory.{NetMemory}
 use Rattle.ground_net.specs.declared.net.NetPort.{NetPort}
 use Rattle.ground_net.specs.declared.net.NetWrite.{NetWrite}

@@ -1,7 +1,7 @@
 //! What is kept before the first cycle.
 
 ghost use Rattle.std.specs.Prelude.{◌≡◌, ◌++◌, IfOk, OnOk, slice_get, length};
-ghost use Rattle.net_meaning.specs.Cycles.{first_state};
+ghost use Rattle.ground_net.specs.Cycles.{first_state};
 ghost use Rattle.net_run.specs.Keeping.{IsKept, zero_of, zeros_at, captured_of, zeros_of_ports, zero_element, first_registers as zero_registers, first_captured as zero_captured, AreZeros, AreZeroMemories};
 
 use crate::kept::Kept;

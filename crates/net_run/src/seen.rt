@@ -1,7 +1,7 @@
 //! What a cycle shows of a net.
 
 ghost use Rattle.std.specs.Prelude.{◌≡◌, ◌≤◌, [], get_or, pos};
-ghost use Rattle.cycle_values.specs.Values.{fitted, lone};
+ghost use Rattle.prim_ops.specs.Values.{fitted, lone};
 
 use bit_words::{Kind, List, Value, from_words};
 use ground_net::Net;

@@ -4,9 +4,9 @@ ghost use Rattle.std.specs.Prelude.{◌≡◌, ◌<◌, IfOk, IsSome, Some, opti
 ghost use Rattle.ground_net.specs.declared.ground.Ground.{Ground as TheGround};
 ghost use Rattle.ground_net.specs.Grounds.{value};
 ghost use Rattle.ground_net.specs.Reads.{IsOrder, driver_of};
-ghost use Rattle.net_meaning.specs.Cycles.{NetState, Inputs, Settled};
-ghost use Rattle.net_meaning.specs.Nets.{IsNet, table_of};
-ghost use Rattle.net_meaning.specs.Shapes.{shape};
+ghost use Rattle.ground_net.specs.Cycles.{NetState, Inputs, Settled};
+ghost use Rattle.ground_net.specs.Nets.{IsNet, table_of};
+ghost use Rattle.ground_net.specs.Shapes.{shape};
 ghost use Rattle.net_run.specs.Seeing.{AreSeen, seen, value_at as value_in};
 ghost use Rattle.net_run.specs.Keeping.{IsKept, AreInputValues, StandsForState, AreGiven, before_assignments, before_all, put_driven};
 

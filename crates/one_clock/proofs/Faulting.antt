@@ -4,7 +4,7 @@ use Rattle.std.specs.Prelude.{Contains, nat_eq}
 use Rattle.std.specs.List.{flat_map}
 use Rattle.std.specs.Map.{lookup}
 use Rattle.place_text.specs.declared.place.Place.{Place}
-use Rattle.fault_order.specs.First.{Tells}
+use Rattle.place_text.specs.First.{Tells}
 use Rattle.fir_tree.specs.declared.scope.Fitted.{Fitted}
 use Rattle.fir_meaning.specs.Components.{TypedModule, Leaf, FlatLeaf, design_of, target_of, flat, type_in}
 use Rattle.fir_meaning.specs.ClockRoot.{IsRooted}

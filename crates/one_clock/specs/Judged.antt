@@ -2,7 +2,7 @@
 use Rattle.std.specs.Prelude.{◌≡◌, ◌↔◌, ℕ, Bool, true, false, List, [], ◌∷◌, flat_map, nat_eq, Option, Some, None, option_map, if◌then◌else◌}
 use Rattle.std.specs.Map.{lookup}
 use Rattle.place_text.specs.declared.place.Place.{Place}
-use Rattle.fault_order.specs.First.{Tells}
+use Rattle.place_text.specs.First.{Tells}
 use Rattle.fir_tree.specs.declared.scope.Fitted.{Fitted}
 use Rattle.fir_meaning.specs.Components.{Leaf, FlatLeaf, design_of}
 use Rattle.fir_meaning.specs.ClockRoot.{IsRooted}

@@ -1,7 +1,7 @@
 //! Whether a circuit has one clock.
 
 ghost use Rattle.std.specs.Prelude.{IfOk};
-ghost use Rattle.fault_order.specs.Verdicts.{IsVerdict};
+ghost use Rattle.place_text.specs.Verdicts.{IsVerdict};
 ghost use Rattle.fir_meaning.specs.Components.{design_of};
 ghost use Rattle.fir_meaning.specs.ClockRoot.{HasOneClock};
 ghost use Rattle.circuit_laws.specs.WellFormed.{IsWellFormed};
@@ -19,8 +19,8 @@ use clock_check::laws::{
     edges_are_links, faults_hang, instances_are_those_of_components, links_stand_at_paths,
     no_fault_has_one_clock, searches_find_what_is_rooted,
 };
-use fault_order::earliest;
 use fir_tree::Fitted;
+use place_text::earliest;
 use std::alloc::{AllocError, Global};
 
 /// Ok where the clock of each register and of each memory port leads to main's first Clock input, at every path (FIRRTL specification

@@ -7,7 +7,7 @@ use Rattle.std.proofs.lemmas.List.Elements.{Contains-append_left, Contains-appen
 use Rattle.bit_words.specs.declared.value.Value.{Value}
 use Rattle.bit_words.specs.declared.value.Kind.{Kind}
 use Rattle.bit_words.specs.declared.value.Kind.TheVariants.{Unsigned}
-use Rattle.cycle_values.specs.Values.{fitted}
+use Rattle.prim_ops.specs.Values.{fitted}
 use Rattle.prim_ops.specs.declared.operation.PrimOp.TheVariants as op
 use Rattle.ground_net.specs.declared.ground.Ground.{Ground}
 use Rattle.ground_net.specs.declared.ground.Ground.TheVariants.{Const, Leaf, Mux, Load}
@@ -20,10 +20,10 @@ use Rattle.ground_net.specs.declared.net.CutPart.{CutPart}
 use Rattle.ground_net.specs.Grounds.{mentions}
 use Rattle.ground_net.specs.Cones.{A_memory, needs_of_memory, numbered, or_no_leaf, reads_need, port_needs, memory_needs}
 use Rattle.ground_net.proofs.Layers.{all_mentions, mentions-Const, mentions-Leaf, mentions-Op, mentions-Mux, mentions-Load}
-use Rattle.net_meaning.specs.Cycles.{mask_leaf, written_leaf}
-use Rattle.net_meaning.specs.Nets.{IsPort}
-use Rattle.code_registers.specs.declared.leaf.MemoryLeaf.{MemoryLeaf}
-use Rattle.code_registers.specs.Captures.{one_bit, zero_bit, both_ground, unless_ground, writing_ground, reading_ground, same_ground, below_ground, over_leaf, over_ground, there_ground, captured_ground}
+use Rattle.ground_net.specs.Cycles.{mask_leaf, written_leaf}
+use Rattle.ground_net.specs.Nets.{IsPort}
+use Rattle.code_memories.specs.declared.leaf.MemoryLeaf.{MemoryLeaf}
+use Rattle.code_memories.specs.NextReads.{one_bit, zero_bit, both_ground, unless_ground, writing_ground, reading_ground, same_ground, below_ground, over_leaf, over_ground, there_ground, captured_ground}
 use Rattle.code_emit.specs.declared.sources.Sources.{Sources}
 use Rattle.code_emit.specs.Counts.{nodes, tips}
 use Rattle.code_emit.proofs.Counting.{tips_few}

@@ -10,9 +10,9 @@ use Rattle.ground_net.specs.declared.ground.Ground.{Ground}
 use Rattle.ground_net.specs.declared.net.Net.{Net}
 use Rattle.ground_net.specs.declared.net.CutPart.{CutPart}
 use Rattle.ground_net.specs.Reads.{IsAssigned, IsOrder}
-use Rattle.net_meaning.specs.Nets.{IsNet}
-use Rattle.net_meaning.specs.Cycles.{captures}
-use Rattle.net_meaning.specs.Words.{state_words, captured_word}
+use Rattle.ground_net.specs.Nets.{IsNet}
+use Rattle.ground_net.specs.Cycles.{captures}
+use Rattle.ground_net.specs.Words.{state_words, captured_word}
 use Rattle.flat_code.specs.declared.code.Code.{Code}
 use Rattle.flat_code.specs.declared.code.Span.{Span}
 use Rattle.flat_code.specs.declared.instr.Instr.{Instr}
@@ -26,20 +26,20 @@ use Rattle.code_draft.specs.declared.draft.Draft.{Draft}
 use Rattle.code_draft.specs.Drafts.{IsDraft}
 use Rattle.code_emit.specs.declared.sources.Sources.{Sources}
 use Rattle.code_emit.specs.Emits.{sources_table}
-use Rattle.code_sequence.specs.Sequences.{Goes, Assigns, turned_table}
-use Rattle.code_publish.specs.Finishing.{IsCodeOf as HasDraftsEffects}
-use Rattle.code_parts.specs.declared.captured.CapturedRead.{CapturedRead}
-use Rattle.code_parts.specs.declared.words.FirstWords.{FirstWords}
-use Rattle.code_parts.specs.FirstWords.{AreFirst, told_of}
-use Rattle.code_parts.specs.Complete.{AreAllOf}
-use Rattle.code_parts.proofs.Among.{among}
-use Rattle.code_parts.specs.Knowing.{Knows}
-use Rattle.code_parts.proofs.Turning.{part_known}
-use Rattle.code_parts.specs.Parts.{IsPart}
-use Rattle.code_parts.proofs.Composed.{publishes, shows}
+use Rattle.partition_code.specs.Sequences.{Goes, Assigns, turned_table}
+use Rattle.code_draft.specs.Finishing.{IsCodeOf as HasDraftsEffects}
+use Rattle.part_compile.specs.declared.captured.CapturedRead.{CapturedRead}
+use Rattle.part_compile.specs.declared.words.FirstWords.{FirstWords}
+use Rattle.part_compile.specs.FirstWords.{AreFirst, told_of}
+use Rattle.part_compile.specs.Complete.{AreAllOf}
+use Rattle.part_compile.proofs.Among.{among}
+use Rattle.part_compile.specs.Knowing.{Knows}
+use Rattle.part_compile.proofs.InTurn.{part_known}
+use Rattle.part_compile.specs.Parts.{IsPart}
+use Rattle.part_compile.proofs.Composed.{publishes, shows}
 use Rattle.partition_code.specs.Codes.{register_words, is_among, HasWordAmong, IsCodeOf, AreCodesOf}
-use Rattle.code_parts.specs.declared.work.Made.{Made}
-use Rattle.code_parts.specs.PartRows.{sinks_of, IsWork, SoFar}
+use Rattle.part_compile.specs.declared.work.Made.{Made}
+use Rattle.part_compile.specs.PartRows.{sinks_of, IsWork, SoFar}
 use Rattle.part_compile.specs.Pieces.{HasDrivers}
 use Rattle.part_compile.specs.Frames.{TakesFewSlots, TakeFewSlots}
 use Rattle.part_compile.proofs.StateWords.{behind_registers, behind_all}

@@ -16,8 +16,8 @@ use Rattle.code_emit.specs.Counts.{nodes}
 use Rattle.code_emit.proofs.Counting.{tips_few, tips_some}
 use Rattle.code_draft.specs.Pieces.{Piece, end_of}
 use Rattle.code_place.specs.Live.{most_live_of}
-use Rattle.code_registers.specs.Nexts.{driven_ground}
-use Rattle.code_registers.specs.Captures.{captured_ground}
+use Rattle.code_memories.specs.Nexts.{driven_ground}
+use Rattle.code_memories.specs.NextReads.{captured_ground}
 use Rattle.partition_code.specs.Codes.{sinks_of_part}
 use Rattle.cone_cutter.proofs.Lists.{none_in, cons_cases}
 use Rattle.part_compile.specs.SlotBounds.{nodes_of, nodes_of_register, nodes_of_memory, assignment_nodes, register_nodes, write_nodes, read_nodes, element_of, sink_nodes, sinks_nodes, most_nodes, frame_bound}

@@ -16,7 +16,7 @@ use Rattle.ground_net.specs.Reads.{driver_of}
 use Rattle.ground_net.specs.Cones.{Sink, A_register, A_memory, needs, needs_of_register, needs_of_memory, register_needs, mentioned_by, mentioned_by_reset, or_no_leaf, port_needs}
 use Rattle.ground_net.proofs.Layers.{mentions-Leaf, mentions-Mux}
 use Rattle.flat_code.specs.Fine.{among}
-use Rattle.code_registers.specs.Nexts.{driven_ground, reset_ground, next_ground}
+use Rattle.code_memories.specs.Nexts.{driven_ground, reset_ground, next_ground}
 use Rattle.code_emit.specs.declared.sources.Sources.{Sources}
 use Rattle.code_emit.specs.Counts.{nodes, tips}
 use Rattle.code_emit.specs.Spans.{leaf_slots}

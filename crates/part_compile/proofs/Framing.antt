@@ -10,8 +10,8 @@ use Rattle.ground_net.specs.declared.net.Role.TheVariants as role
 use Rattle.ground_net.specs.Grounds.{mentions}
 use Rattle.ground_net.specs.Cones.{A_watched, sinks, mentioned_by, needed}
 use Rattle.ground_net.specs.Reads.{IsAssigned, driver_of, lone_driver, direct_reads}
-use Rattle.net_meaning.specs.Nets.{IsNet}
-use Rattle.net_meaning.proofs.Settling.{reads_mentions}
+use Rattle.ground_net.specs.Nets.{IsNet}
+use Rattle.ground_net.proofs.Settling.{reads_mentions}
 use Rattle.flat_code.specs.declared.code.Code.{Code}
 use Rattle.flat_code.specs.declared.instr.Location.{Location}
 use Rattle.flat_code.specs.Fine.{among, slots_of}
@@ -25,13 +25,13 @@ use Rattle.code_emit.specs.Emits.{leaf_source}
 use Rattle.code_emit.specs.Counts.{tips}
 use Rattle.code_emit.specs.Spans.{leaf_slots, found_slots, AreFoundBefore}
 use Rattle.code_emit.proofs.Counting.{tips_few}
-use Rattle.code_sequence.specs.Sequences.{driver_in}
-use Rattle.code_sequence.specs.Segmented.{with_frame, InSegments, AreSegments}
-use Rattle.code_sequence.proofs.Turns.{set_source, other_source}
-use Rattle.code_sequence.proofs.Segmenting.{found_by}
+use Rattle.partition_code.specs.Sequences.{driver_in}
+use Rattle.partition_code.specs.Segmented.{with_frame, InSegments, AreSegments}
+use Rattle.partition_code.proofs.Turns.{set_source, other_source}
+use Rattle.partition_code.proofs.Segmenting.{found_by}
 use Rattle.code_draft.specs.Pieces.{AssignsPieces}
-use Rattle.code_sequence.specs.FromNets.{AreOf}
-use Rattle.code_parts.specs.Complete.{AreAllOf}
+use Rattle.partition_code.specs.FromNets.{AreOf}
+use Rattle.part_compile.specs.Complete.{AreAllOf}
 use Rattle.cone_cutter.specs.Splits.{IsUnion}
 use Rattle.cone_cutter.proofs.Assembly.{assigned_within}
 use Rattle.cone_cutter.proofs.Lists.{none_in, cons_cases, stood}
@@ -41,7 +41,7 @@ use Rattle.part_compile.proofs.Standing.{contains_first, contains_later}
 use Rattle.part_compile.proofs.Fitting.{item_there}
 use Rattle.part_compile.proofs.Turning.{turns_pieces}
 use Rattle.part_compile.proofs.Building.{in_pieces}
-use Rattle.code_parts.specs.declared.work.Made.{Made}
+use Rattle.part_compile.specs.declared.work.Made.{Made}
 use Rattle.part_compile.specs.Frames.{WatchesAssignments}
 use Rattle.part_compile.specs.Telling.{AreFound, TellsInPieces}
 use Rattle.part_compile.proofs.Composing.{are_assignments}

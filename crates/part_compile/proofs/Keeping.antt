@@ -10,9 +10,9 @@ use Rattle.ground_net.specs.declared.net.Role.{Role}
 use Rattle.ground_net.specs.declared.net.Role.TheVariants as role
 use Rattle.ground_net.specs.Cones.{A_memory, needed}
 use Rattle.ground_net.specs.Reads.{IsAssigned}
-use Rattle.net_meaning.specs.Cycles.{Capture, captures, element_leaf}
-use Rattle.net_meaning.specs.Nets.{IsNet, shape_or_none}
-use Rattle.net_meaning.specs.Words.{captured_word}
+use Rattle.ground_net.specs.Cycles.{Capture, captures, element_leaf}
+use Rattle.ground_net.specs.Nets.{IsNet, shape_or_none}
+use Rattle.ground_net.specs.Words.{captured_word}
 use Rattle.code_emit.specs.declared.sources.Source.{Source}
 use Rattle.code_emit.specs.declared.sources.Source.TheVariants as source
 use Rattle.code_emit.specs.declared.sources.Elements.{Elements}
@@ -20,9 +20,9 @@ use Rattle.code_emit.specs.declared.sources.Sources.{Sources}
 use Rattle.code_emit.specs.Emits.{leaf_source, element_source}
 use Rattle.code_emit.proofs.Rowing.{some_of}
 use Rattle.code_emit.proofs.Shaped.{some_is, some_same}
-use Rattle.code_sequence.specs.Sequences.{StandElsewhere}
-use Rattle.code_sequence.specs.FromNets.{IsFrom}
-use Rattle.code_parts.specs.Complete.{AreAllOf}
+use Rattle.partition_code.specs.Sequences.{StandElsewhere}
+use Rattle.partition_code.specs.FromNets.{IsFrom}
+use Rattle.part_compile.specs.Complete.{AreAllOf}
 use Rattle.code_memories.specs.Memories.{HasMemory, StandsInMemory, StandsCaptured}
 use Rattle.code_memories.proofs.Numbered.{some_there}
 use Rattle.part_compile.specs.Rows.{KnowsCone, AreKept}

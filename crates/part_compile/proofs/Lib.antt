@@ -1,5 +1,6 @@
 pub mod Marks
 pub mod Walking
+pub mod Rows
 pub mod Counts
 pub mod Staying
 pub mod Standing
@@ -20,3 +21,15 @@ pub mod Filtered
 pub mod Told
 pub mod Framing
 pub mod Rooming
+mod ToldReads
+pub mod Rowed
+pub mod Among
+pub mod Agreeing
+pub mod InTurn
+pub mod Places
+pub mod Shaping
+pub mod Making
+mod Owning
+pub mod Composed
+pub mod Shown
+pub mod Placed

@@ -12,11 +12,11 @@ use Rattle.cone_cutter.specs.Rows.{sink_of}
 use Rattle.code_draft.specs.declared.draft.Draft.{Draft}
 use Rattle.code_emit.specs.declared.sources.Sources.{Sources}
 use Rattle.code_emit.specs.Emits.{sources_table}
-use Rattle.code_registers.specs.Telling.{TellsSinks}
-use Rattle.code_parts.proofs.Turning.{knows_for}
-use Rattle.code_parts.specs.declared.work.Made.{Made}
-use Rattle.code_parts.specs.PartRows.{IsWork, IsReady, Adds, SoFar}
-use Rattle.code_parts.proofs.Making.{one_so_far}
+use Rattle.code_memories.specs.Telling.{TellsSinks}
+use Rattle.part_compile.proofs.InTurn.{knows_for}
+use Rattle.part_compile.specs.declared.work.Made.{Made}
+use Rattle.part_compile.specs.PartRows.{IsWork, IsReady, Adds, SoFar}
+use Rattle.part_compile.proofs.Making.{one_so_far}
 use Rattle.part_compile.specs.Rows.{KnowsCone}
 
 -- a memory under the same number

@@ -6,10 +6,10 @@ use Rattle.std.proofs.lemmas.Option.{slice_get_cases}
 use Rattle.ground_net.specs.declared.net.Net.{Net}
 use Rattle.ground_net.specs.declared.net.NetMemory.{NetMemory}
 use Rattle.ground_net.specs.declared.net.NetRegister.{NetRegister}
-use Rattle.net_meaning.specs.Shapes.{Shape}
-use Rattle.net_meaning.specs.Cycles.{Capture, captures}
-use Rattle.net_meaning.specs.Nets.{register_shapes, captured_shapes, shape_or_none}
-use Rattle.net_meaning.specs.Words.{word_count, count_words, register_word, captured_word, memory_words, state_words}
+use Rattle.ground_net.specs.Shapes.{Shape}
+use Rattle.ground_net.specs.Cycles.{Capture, captures}
+use Rattle.ground_net.specs.Nets.{register_shapes, captured_shapes, shape_or_none}
+use Rattle.ground_net.specs.Words.{word_count, count_words, register_word, captured_word, memory_words, state_words}
 
 one_or_two : (b : Bool) → (if b then 2 else 1) ≤ 2
 one_or_two true = omega arith

@@ -7,15 +7,15 @@ use Rattle.ground_net.specs.declared.net.NetRegister.{NetRegister}
 use Rattle.ground_net.specs.declared.net.CutPart.{CutPart}
 use Rattle.ground_net.specs.Cones.{Sink, A_watched, A_register, A_memory}
 use Rattle.ground_net.specs.Reads.{driver_of}
-use Rattle.net_meaning.specs.Nets.{IsNet}
-use Rattle.code_registers.specs.Nexts.{next_ground}
+use Rattle.ground_net.specs.Nets.{IsNet}
+use Rattle.code_memories.specs.Nexts.{next_ground}
 use Rattle.flat_code.specs.declared.instr.Location.{Location}
 use Rattle.flat_code.specs.Fine.{among, location_slots, slots_of}
 use Rattle.code_draft.specs.declared.draft.Draft.{Draft}
 use Rattle.code_draft.proofs.Segmenting.{none_among, among_either}
 use Rattle.code_emit.specs.declared.sources.Sources.{Sources}
 use Rattle.code_emit.specs.Spans.{leaf_slots, found_slots, AreFoundBefore}
-use Rattle.code_registers.specs.Groups.{found_groups}
+use Rattle.code_memories.specs.SinkGroups.{found_groups}
 use Rattle.code_memories.specs.Groups.{IsMemoryGroup}
 use Rattle.code_draft.specs.Pieces.{AddsPieces}
 use Rattle.code_draft.proofs.Building.{adds_not, adds_then}
@@ -26,7 +26,7 @@ use Rattle.part_compile.proofs.Standing.{contains_first}
 use Rattle.part_compile.proofs.Fitting.{all_read, register_fits, write_fits}
 use Rattle.part_compile.proofs.Capturing.{capture_fits}
 use Rattle.part_compile.proofs.Telling.{groups_pieces}
-use Rattle.code_parts.specs.declared.work.Made.{Made}
+use Rattle.part_compile.specs.declared.work.Made.{Made}
 use Rattle.part_compile.specs.Telling.{EvaluatesSink, AreFound, AreTold}
 
 -- a slot of locations and of one more

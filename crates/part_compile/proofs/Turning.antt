@@ -15,9 +15,9 @@ use Rattle.code_emit.specs.declared.sources.Source.TheVariants as source
 use Rattle.code_emit.specs.declared.sources.Sources.{Sources}
 use Rattle.code_emit.specs.Counts.{tips}
 use Rattle.code_emit.specs.Spans.{leaf_slots, ground_slots}
-use Rattle.code_sequence.specs.Sequences.{driver_in}
-use Rattle.code_sequence.specs.Segmented.{with_frame, InSegments}
-use Rattle.code_sequence.proofs.Segmenting.{leaf_there, leaf_elsewhere}
+use Rattle.partition_code.specs.Sequences.{driver_in}
+use Rattle.partition_code.specs.Segmented.{with_frame, InSegments}
+use Rattle.partition_code.proofs.Segmenting.{leaf_there, leaf_elsewhere}
 use Rattle.code_draft.specs.Pieces.{Piece, StandsIn, IsPiece, GoesBy, AssignsPieces}
 use Rattle.code_draft.proofs.Building.{piece_of, goes_not, goes_one, goes_further}
 use Rattle.part_compile.specs.Pieces.{Once}

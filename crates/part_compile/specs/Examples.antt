@@ -2,7 +2,7 @@
 use Rattle.std.specs.Prelude.{ℕ, min, Bool, List, [], ◌∷◌, Option, Some, None, pos}
 use Rattle.std.proofs.Math.Nat.{min-le_right}
 use Rattle.bit_words.specs.declared.value.Kind.TheVariants.{Unsigned}
-use Rattle.cycle_values.specs.Values.{fitted}
+use Rattle.prim_ops.specs.Values.{fitted}
 use Rattle.prim_ops.specs.declared.operation.PrimOp.TheVariants.{Add}
 use Rattle.ground_net.specs.declared.ground.Ground.TheVariants as expression
 use Rattle.ground_net.specs.declared.net.Role.TheVariants as role

@@ -2,6 +2,10 @@
 pub mod Rooms
 pub mod SlotBounds
 pub mod Examples
+pub mod FirstWords
+pub mod Complete
+pub mod Knowing
+pub mod Parts
 -- what is known of a code
 pub mod Pieces
 pub mod Frames
@@ -9,3 +13,6 @@ pub mod Frames
 pub mod Counts
 pub mod Rows
 pub mod Telling
+pub mod KeptRows
+pub mod PartRows
+pub mod Groups

@@ -15,9 +15,9 @@ use Rattle.ground_net.specs.declared.net.ElementLeaf.{ElementLeaf}
 use Rattle.ground_net.specs.declared.net.CutPart.{CutPart}
 use Rattle.ground_net.specs.Reads.{direct_reads, driver_of}
 use Rattle.ground_net.specs.Cones.{Sink, A_watched, A_register, A_memory, needs, numbered, or_no_leaf}
-use Rattle.code_registers.specs.Nexts.{driven_ground}
-use Rattle.code_registers.specs.declared.leaf.MemoryLeaf.{MemoryLeaf}
-use Rattle.code_registers.specs.Captures.{captured_ground}
+use Rattle.code_memories.specs.Nexts.{driven_ground}
+use Rattle.code_memories.specs.declared.leaf.MemoryLeaf.{MemoryLeaf}
+use Rattle.code_memories.specs.NextReads.{captured_ground}
 use Rattle.flat_code.specs.Fine.{among}
 use Rattle.code_emit.specs.Counts.{nodes}
 use Rattle.partition_code.specs.Codes.{sinks_of_part}

@@ -11,13 +11,13 @@ use Rattle.code_emit.specs.declared.sources.Source.TheVariants as source
 use Rattle.code_emit.specs.declared.sources.Sources.{Sources}
 use Rattle.code_emit.specs.Emits.{leaf_source}
 use Rattle.code_emit.specs.Spans.{leaf_slots, AreFoundBefore}
-use Rattle.code_registers.specs.Groups.{EvaluatesOnly}
+use Rattle.code_memories.specs.SinkGroups.{EvaluatesOnly}
 use Rattle.code_memories.specs.Groups.{IsMemoryGroup}
 use Rattle.code_draft.specs.Pieces.{StandsIn, AddsPieces}
 use Rattle.partition_code.specs.Codes.{sinks_of_part}
 use Rattle.part_compile.specs.SlotBounds.{sinks_read, sinks_nodes}
-use Rattle.code_parts.specs.declared.work.Made.{Made}
-use Rattle.code_parts.specs.Groups.{ShowsLeaf, EvaluatesRegister}
+use Rattle.part_compile.specs.declared.work.Made.{Made}
+use Rattle.part_compile.specs.Groups.{ShowsLeaf, EvaluatesRegister}
 
 -- A watched leaf is shown where it stands, and a register and a memory have their groups of expressions evaluated.
 abbrev pub EvaluatesSink : Net → Sources → Sink → Made → Made → Type 0

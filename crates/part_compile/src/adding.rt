@@ -3,14 +3,16 @@
 ghost use Rattle.std.specs.Prelude.{◌≡◌, ◌<◌, ◌^◌, Some, length, slice_get, map, IfOk, OnOk};
 ghost use Rattle.ground_net.specs.Cones.{sinks as sinks_in, A_memory};
 ghost use Rattle.cone_cutter.specs.Rows.{sink_of};
-ghost use Rattle.code_parts.specs.PartRows.{IsPlan, IsWork, IsReady, Adds, SoFar};
+ghost use Rattle.part_compile.specs.PartRows.{IsPlan, IsWork, IsReady, Adds, SoFar};
 ghost use Rattle.part_compile.specs.Rows.{KnowsCone, AreKept};
 ghost use Rattle.part_compile.specs.Telling.{EvaluatesSink, TellsInPieces};
 
+use crate::sink_code::{add_register, show_leaf};
+use crate::spans::own_memory;
+use crate::work::{Made, Work};
 use bit_words::List;
 use code_draft::Draft;
 use code_memories::publish_memory;
-use code_parts::{Made, Work, add_register, own_memory, show_leaf};
 use cone_cutter::SinkAt;
 use ground_net::CutPart;
 use std::alloc::{AllocError, Global};

@@ -2,19 +2,21 @@
 
 ghost use Rattle.std.specs.Prelude.{◌<◌, length, All, IfOk};
 ghost use Rattle.ground_net.specs.Reads.{IsOrder};
-ghost use Rattle.net_meaning.specs.Nets.{IsNet};
-ghost use Rattle.net_meaning.specs.Words.{SaysItsWords};
+ghost use Rattle.ground_net.specs.Nets.{IsNet};
+ghost use Rattle.ground_net.specs.Words.{SaysItsWords};
 ghost use Rattle.cone_cutter.specs.Splits.{IsSplit};
 ghost use Rattle.partition_code.specs.Codes.{AreCodesOf};
 ghost use Rattle.part_compile.specs.Frames.{TakeFewSlots};
 
 use crate::arranging::arrange_once;
+use crate::captured::captured_reads;
 use crate::counting::has_few_words;
 use crate::part_code::code_of;
 use crate::room::room_of;
+use crate::words::{first_words, have_numbers};
+use crate::work::Plan;
 use bit_words::List;
-use code_parts::{Plan, captured_reads, first_words, have_numbers};
-use cone_cutter::sinks_of;
+use cone_cutter::NetRows;
 use flat_code::Code;
 use ground_net::{Cut, Ordered};
 use std::alloc::{AllocError, Global};
@@ -54,7 +56,8 @@ pub fn compile(
         return Err(AllocError);
     }
     let words = first_words(alloc, net)?;
-    let sinks = sinks_of(alloc, net, watch)?;
+    let rows = NetRows::new(alloc, net, watch)?;
+    let sinks = rows.sinks.as_slice();
     let plan = Plan {
         net,
         watch,
@@ -63,8 +66,8 @@ pub fn compile(
     };
     let mut codes = List::new(alloc);
     for part in cut.parts.as_slice() {
-        let code = code_of(alloc, &plan, sinks.as_slice(), part)?;
-        let room = room_of(alloc, net, watch, sinks.as_slice(), part)?;
+        let code = code_of(alloc, &plan, sinks, part)?;
+        let room = room_of(alloc, net, watch, &rows, part)?;
         codes.push(arrange_once(alloc, code, room)?)?;
     }
     Ok(codes)

@@ -1,11 +1,11 @@
 //! How many words a state has.
 
 ghost use Rattle.std.specs.Prelude.{◌≡◌, ◌<◌, ◌≤◌, ◌+◌, ◌^◌, IsTrue, length, sum_by};
-ghost use Rattle.net_meaning.specs.Nets.{register_shapes};
-ghost use Rattle.net_meaning.specs.Cycles.{captures};
-ghost use Rattle.net_meaning.specs.Words.{count_words, memory_words, state_words, SaysItsWords};
+ghost use Rattle.ground_net.specs.Nets.{register_shapes};
+ghost use Rattle.ground_net.specs.Cycles.{captures};
+ghost use Rattle.ground_net.specs.Words.{count_words, memory_words, state_words, SaysItsWords};
 
-use code_parts::element_words;
+use crate::words::element_words;
 use ground_net::Net;
 
 /// Words have numbers below this.

@@ -1,11 +1,11 @@
 //! Assignments that are live behind a position, counted from the last position back.
 
-ghost use Rattle.std.specs.Prelude.{◌≡◌, ℕ, false, [], ◌∷◌, map, IfOk, List as Listed};
+ghost use Rattle.std.specs.Prelude.{◌≡◌, ℕ, false, [], ◌∷◌, IfOk, List as Listed};
 ghost use Rattle.std.proofs.Math.ListN.{get_or, set as set_at};
-ghost use Rattle.ground_net.specs.Grounds.{mentions, joined};
+ghost use Rattle.cone_cutter.specs.Rows.{told, row_at};
 ghost use Rattle.part_compile.specs.Counts.{CountsLive, ReadsMore, Passes};
 
-use ground_net::Ground;
+use cone_cutter::NetRows;
 use std::alloc::{AllocError, Global};
 
 /// Which leaves are read behind a position of a sequence of assignments, and which stand at or before it.
@@ -17,16 +17,19 @@ pub struct LiveCount {
     pub done: Vec<bool>,
     /// So many leaves are both.
     pub count: u32,
+    /// Whether each vertex was met.
+    pub met: Vec<bool>,
 }
 
-/// All of these assignments stand before, and none is read. Takes memory for two bytes of each leaf.
+/// All of these assignments stand before, and none is read. Takes memory for two bytes of each leaf, and for one of each row.
 pub(crate) fn none_read(
     alloc: Global,
-    leaves: usize,
+    rows: &NetRows,
     assignments: &[u32],
 ) -> Result<LiveCount, AllocError>
     ensures { IfOk result (λ live. (read : Listed ℕ) → CountsLive read assignments.now live) }
 {
+    let leaves = rows.leaves;
     let mut done = vec![in alloc; false; leaves]?;
     for leaf in assignments {
         set(done.as_mut_slice(), *leaf, true);
@@ -36,6 +39,7 @@ pub(crate) fn none_read(
         read,
         done,
         count: 0,
+        met: vec![in alloc; false; rows.reads.len()]?,
     })
 }
 
@@ -82,31 +86,60 @@ pub(crate) fn pass_leaf(live: &mut LiveCount, leaf: u32)
     }
 }
 
-/// Reads the leaves that an expression mentions.
-#[cycle(mentioned)]
-pub(crate) fn read_ground(live: &mut LiveCount, ground: &Ground)
-    ensures { ReadsMore (mentions ground.now) live.old live.new }
+/// Reads leaves.
+fn read_leaves(live: &mut LiveCount, leaves: &[u32])
+    ensures { ReadsMore leaves.now live.old live.new }
 {
-    match ground {
-        Ground::Const(_) => {}
-        Ground::Leaf(leaf) => read_leaf(live, *leaf),
-        Ground::Op(_, items, _) | Ground::Mux(items) | Ground::Fit(_, _, items) => {
-            read_all(live, items.as_slice());
-        }
-        Ground::Load(_, _, items) => read_all(live, items.as_slice()),
-        Ground::Select(index, items) => {
-            read_all(live, index.as_slice());
-            read_all(live, items.as_slice());
-        }
+    for leaf in leaves {
+        read_leaf(live, *leaf);
     }
 }
 
-/// Reads the leaves that expressions mention.
-#[cycle(mentioned)]
-fn read_all(live: &mut LiveCount, grounds: &[Ground])
-    ensures { ReadsMore (joined (map mentions grounds.now)) live.old live.new }
+/// Reads what a row of a net tells: leaves, and what vertices stand for.
+pub(crate) fn read_row(live: &mut LiveCount, rows: &NetRows, row: &[u32])
+    ensures { ReadsMore (told rows.now.leaves rows.now.reads.items row.now) live.old live.new }
 {
-    for ground in grounds {
-        read_ground(live, ground);
+    for number in row {
+        read_number(live, rows, *number);
     }
+}
+
+/// Reads what a number in a row tells.
+fn read_number(live: &mut LiveCount, rows: &NetRows, number: u32)
+    ensures { ReadsMore (told rows.now.leaves rows.now.reads.items (number ∷ [])) live.old live.new }
+{
+    if (number as usize) < rows.leaves {
+        read_leaf(live, number);
+    } else {
+        read_vertex(live, rows, number);
+    }
+}
+
+/// Reads the leaves of a vertex, where it wasn't met before.
+fn read_vertex(live: &mut LiveCount, rows: &NetRows, vertex: u32)
+    ensures { ReadsMore (row_at rows.now.reads.items vertex) live.old live.new }
+{
+    if is_set(live.met.as_slice(), vertex) {
+        return;
+    }
+    meet(live, vertex);
+    read_members(live, rows, vertex);
+}
+
+/// Reads the leaves of a vertex.
+fn read_members(live: &mut LiveCount, rows: &NetRows, vertex: u32)
+    ensures { ReadsMore (row_at rows.now.reads.items vertex) live.old live.new }
+{
+    let at = vertex as usize;
+    let count = rows.reads.len();
+    if at < count {
+        read_leaves(live, rows.reads[at].as_slice());
+    }
+}
+
+/// Notes that a vertex was met.
+fn meet(live: &mut LiveCount, vertex: u32)
+    ensures { (xs : Listed ℕ) → ReadsMore xs live.old live.new }
+{
+    set(live.met.as_mut_slice(), vertex, true);
 }

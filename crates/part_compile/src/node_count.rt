@@ -93,6 +93,11 @@ fn count_nodes(ground: &Ground) -> u32
             let operands = count_all(index.as_slice()).saturating_add(count_all(items.as_slice()));
             operands.saturating_add(1)
         }
+        Ground::Indexed(numbers, indices, _) => {
+            let leaves = u32::try_from(numbers.count()).unwrap_or(u32::MAX);
+            let operands = count_all(indices.as_slice()).saturating_add(leaves);
+            operands.saturating_add(1)
+        }
     }
 }
 

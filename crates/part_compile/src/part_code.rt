@@ -5,20 +5,21 @@ ghost use Rattle.ground_net.specs.Cones.{sinks as sinks_in};
 ghost use Rattle.cone_cutter.specs.Rows.{sink_of};
 ghost use Rattle.partition_code.specs.Codes.{IsCodeOf};
 ghost use Rattle.code_place.specs.Live.{IsSingle};
-ghost use Rattle.code_parts.specs.FirstWords.{HaveNumbers};
-ghost use Rattle.code_parts.specs.PartRows.{IsPlan};
+ghost use Rattle.part_compile.specs.FirstWords.{HaveNumbers};
+ghost use Rattle.part_compile.specs.PartRows.{IsPlan};
 ghost use Rattle.part_compile.specs.Pieces.{InPieces};
 ghost use Rattle.part_compile.specs.Frames.{WatchesAssignments};
 ghost use Rattle.part_compile.specs.Rows.{IsUnionInOrder};
 
 use crate::adding::made_of;
+use crate::sources::sources_of;
+use crate::work::{Plan, Work};
+use code_draft::finish;
 use code_draft::steps::empty;
-use code_parts::{Plan, Work, sources_of};
-use code_publish::finish;
-use code_sequence::assign_all;
 use cone_cutter::SinkAt;
 use flat_code::{Code, publishing_changes};
 use ground_net::CutPart;
+use partition_code::assign_all;
 use std::alloc::{AllocError, Global};
 
 /// The code of a part: its assignments in their order, and then its sinks in theirs. The sinks are those of the net, by their numbers.

@@ -3,3 +3,4 @@ pub mod Slots
 mod Parts
 pub mod Declared
 pub mod Seeing
+pub mod Ordering

@@ -57,21 +57,10 @@ pair_equal a b e =
     let both = both_true (nat_eq a.0 b.0) (nat_eq a.1 b.1) e in
     (eqb-true a.0 b.0 both.0, eqb-true a.1 b.1 both.1)
 
--- a key is found behind the others only where it is the last
-lookup_last : {K V : Type 0} (test : K → Bool) (entries : List (K × V)) (key : K) (given found : V) → lookup test (entries ++ (key, given) ∷ []) ≡ Some found
-    → (lookup test entries ≡ Some found) ⊎ ((test key ≡ true) × (given ≡ found))
-lookup_last test [] key given found h = by (test key) refl h
-  where
-    by : (b : Bool) → test key ≡ b → cond b (Some given) None ≡ Some found → (None ≡ Some found) ⊎ ((test key ≡ true) × (given ≡ found))
-    by true e h = inr (e, cc)
-    by false e h = absurd cc
-lookup_last test (c ∷ entries) key given found h = by (test c.0) (lookup_last test entries key given found) h
-  where
-    by : (b : Bool) → (lookup test (entries ++ (key, given) ∷ []) ≡ Some found → (lookup test entries ≡ Some found) ⊎ ((test key ≡ true) × (given ≡ found)))
-        → cond b (Some c.1) (lookup test (entries ++ (key, given) ∷ [])) ≡ Some found
-        → (cond b (Some c.1) (lookup test entries) ≡ Some found) ⊎ ((test key ≡ true) × (given ≡ found))
-    by true rest h = inl h
-    by false rest h = rest h
+-- what is found once one more is there
+told : (b : Bool) (given found : ℕ) (before : Option ℕ) → cond b (Some given) before ≡ Some found → (before ≡ Some found) ⊎ ((b ≡ true) × (given ≡ found))
+told true given found before h = inr (refl, cc)
+told false given found before h = inl h
 
 -- What is seen stays.
 
@@ -165,7 +154,8 @@ held_pushed ws known a b r p keeps h = record {
   pairs = λ pair number found. choice_still a.seen.items b.seen.items pair number keeps (h.pairs pair number (sym (ap (lookup (same_pair pair)) p) ∙ found));
 }
 
-pub held_reference : (ws : List Width) (known : Known) (a b : Choices) (key : Reference) (given : ℕ) → b.references.entries ≡ a.references.entries ++ (key, given) ∷ [] → b.pairs.entries ≡ a.pairs.entries
+pub held_reference : (ws : List Width) (known : Known) (a b : Choices) (key : Reference) (given : ℕ)
+    → ((q : Reference) → lookup (same_reference q) b.references.entries ≡ cond (same_reference key q) (Some given) (lookup (same_reference q) a.references.entries)) → b.pairs.entries ≡ a.pairs.entries
     → b.seen.items ≡ a.seen.items → is_some (lookup (nat_eq key.name) known) ≡ true → IsPart ws a.seen.items given (part_at known key) → AreChoices ws known a → AreChoices ws known b
 held_reference ws known a b key given r p s is part h = record {
   are_known = λ one number found. by_known one number (either one number found);
@@ -173,32 +163,33 @@ held_reference ws known a b key given r p s is part h = record {
   pairs = λ pair number found. subst (λ all. IsChoice all pair number) (sym s) (h.pairs pair number (sym (ap (lookup (same_pair pair)) p) ∙ found));
 }
   where
-    either : (one : Reference) (number : ℕ) → lookup (same_reference one) b.references.entries ≡ Some number → (lookup (same_reference one) a.references.entries ≡ Some number) ⊎ ((same_reference one key ≡ true) × (given ≡ number))
-    either one number found = lookup_last (same_reference one) a.references.entries key given number (sym (ap (lookup (same_reference one)) r) ∙ found)
+    either : (one : Reference) (number : ℕ) → lookup (same_reference one) b.references.entries ≡ Some number → (lookup (same_reference one) a.references.entries ≡ Some number) ⊎ ((same_reference key one ≡ true) × (given ≡ number))
+    either one number found = told (same_reference key one) given number (lookup (same_reference one) a.references.entries) (sym (r one) ∙ found)
 
-    by_known : (one : Reference) (number : ℕ) → (lookup (same_reference one) a.references.entries ≡ Some number) ⊎ ((same_reference one key ≡ true) × (given ≡ number)) → is_some (lookup (nat_eq one.name) known) ≡ true
+    by_known : (one : Reference) (number : ℕ) → (lookup (same_reference one) a.references.entries ≡ Some number) ⊎ ((same_reference key one ≡ true) × (given ≡ number)) → is_some (lookup (nat_eq one.name) known) ≡ true
     by_known one number (inl old) = h.are_known one number old
-    by_known one number (inr now) = ap (λ name. is_some (lookup (nat_eq name) known)) (same_name one key now.0) ∙ is
+    by_known one number (inr now) = ap (λ name. is_some (lookup (nat_eq name) known)) (sym (same_name key one now.0)) ∙ is
 
-    by_part : (one : Reference) (number : ℕ) → (lookup (same_reference one) a.references.entries ≡ Some number) ⊎ ((same_reference one key ≡ true) × (given ≡ number)) → IsPart ws a.seen.items number (part_at known one)
+    by_part : (one : Reference) (number : ℕ) → (lookup (same_reference one) a.references.entries ≡ Some number) ⊎ ((same_reference key one ≡ true) × (given ≡ number)) → IsPart ws a.seen.items number (part_at known one)
     by_part one number (inl old) = h.references one number old
     by_part one number (inr now) =
-        subst (λ n. IsPart ws a.seen.items n (part_at known one)) now.1 (subst (λ (c : Component). IsPart ws a.seen.items given c) (sym (same_part known one key now.0)) part)
+        subst (λ n. IsPart ws a.seen.items n (part_at known one)) now.1 (subst (λ (c : Component). IsPart ws a.seen.items given c) (same_part known key one now.0) part)
 
-pub held_pair : (ws : List Width) (known : Known) (a b : Choices) (pair : ℕ × ℕ) (given : ℕ) → b.pairs.entries ≡ a.pairs.entries ++ (pair, given) ∷ [] → b.references.entries ≡ a.references.entries
+pub held_pair : (ws : List Width) (known : Known) (a b : Choices) (pair : ℕ × ℕ) (given : ℕ)
+    → ((q : ℕ × ℕ) → lookup (same_pair q) b.pairs.entries ≡ cond (same_pair pair q) (Some given) (lookup (same_pair q) a.pairs.entries)) → b.references.entries ≡ a.references.entries
     → b.seen.items ≡ a.seen.items → IsChoice a.seen.items pair given → AreChoices ws known a → AreChoices ws known b
 held_pair ws known a b pair given p r s is h = record {
   are_known = λ key number found. h.are_known key number (sym (ap (lookup (same_reference key)) r) ∙ found);
   references = λ key number found. subst (λ all. IsPart ws all number (part_at known key)) (sym s) (h.references key number (sym (ap (lookup (same_reference key)) r) ∙ found));
   pairs = λ one number found. subst (λ all. IsChoice all one number) (sym s)
-      (by one number (lookup_last (same_pair one) a.pairs.entries pair given number (sym (ap (lookup (same_pair one)) p) ∙ found)));
+      (by one number (told (same_pair pair one) given number (lookup (same_pair one) a.pairs.entries) (sym (p one) ∙ found)));
 }
   where
-    by : (one : ℕ × ℕ) (number : ℕ) → (lookup (same_pair one) a.pairs.entries ≡ Some number) ⊎ ((same_pair one pair ≡ true) × (given ≡ number)) → IsChoice a.seen.items one number
+    by : (one : ℕ × ℕ) (number : ℕ) → (lookup (same_pair one) a.pairs.entries ≡ Some number) ⊎ ((same_pair pair one ≡ true) × (given ≡ number)) → IsChoice a.seen.items one number
     by one number (inl old) = h.pairs one number old
     by one number (inr now) =
-        let same = pair_equal one pair now.0 in
-        subst (λ n. IsChoice a.seen.items one n) now.1 (subst (λ (q : ℕ × ℕ). IsChoice a.seen.items q given) (ap₂ (λ x y. (x, y)) (sym same.0) (sym same.1)) is)
+        let same = pair_equal pair one now.0 in
+        subst (λ n. IsChoice a.seen.items one n) now.1 (subst (λ (q : ℕ × ℕ). IsChoice a.seen.items q given) (ap₂ (λ x y. (x, y)) same.0 same.1) is)
 
 -- Nothing is seen.
 

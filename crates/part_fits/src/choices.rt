@@ -19,6 +19,7 @@ use fir_types::{FirType, copy};
 use indexmap::IndexMap;
 use prim_ops::Width;
 use std::alloc::{AllocError, Global};
+use std::collections::BTreeMap;
 use type_filling::made::Made;
 use width_rules::indexed::Indexed;
 use width_rules::measuring::{look_up, no_component};
@@ -64,9 +65,10 @@ impl Seen {
 /// so does a choice between two that were seen: each of them is kept once.
 #[derive(Drop)]
 pub struct Choices {
-    references: IndexMap<Reference, usize>,
+    /// By ordered maps, since a text chooses the keys.
+    references: BTreeMap<Reference, usize>,
     /// By the numbers of what is chosen between.
-    pairs: IndexMap<(usize, usize), usize>,
+    pairs: BTreeMap<(usize, usize), usize>,
     seen: Vec<Seen>,
 }
 
@@ -76,8 +78,8 @@ impl Choices {
         ensures { (ws : Listed AWidth) (known : Known) → AreChoices ws known result }
     {
         Choices {
-            references: IndexMap::new(alloc),
-            pairs: IndexMap::new(alloc),
+            references: BTreeMap::new(alloc),
+            pairs: BTreeMap::new(alloc),
             seen: Vec::new(alloc),
         }
     }

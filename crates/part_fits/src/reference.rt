@@ -8,14 +8,14 @@ use fir_tree::Suffix;
 use std::alloc::{AllocError, Global};
 
 /// A step of a reference: to the field of this name, or to an element. All elements of a vector have the same type and widths.
-#[derive(Clone, Copy, PartialEq, Eq, Hash)]
+#[derive(Clone, Copy, PartialEq, Eq, PartialOrd, Ord)]
 pub enum Step {
     Field(u32),
     Element,
 }
 
 /// The name of a component, and the steps from there to a part of it.
-#[derive(PartialEq, Eq, Hash, Drop)]
+#[derive(PartialEq, Eq, PartialOrd, Ord, Drop)]
 pub struct Reference {
     pub name: u32,
     pub steps: Vec<Step>,

@@ -9,7 +9,7 @@ use lib.ListN.{get_elem?}
 use Rattle.bit_words.specs.declared.value.Value.{Value}
 use Rattle.phase_core.specs.declared.model.Publication.{Publication}
 use Rattle.phase_core.proofs.Lists.{at_below, at-get_or}
-use Rattle.net_meaning.specs.Words.{state_words}
+use Rattle.ground_net.specs.Words.{state_words}
 use Rattle.flat_code.specs.declared.code.Code.{Code}
 use Rattle.flat_code.specs.Codes.{published_by}
 use Rattle.flat_code.specs.Meaning.{published, pushes}

@@ -8,9 +8,9 @@ use Rattle.bit_words.specs.declared.value.Kind.TheVariants.{Unsigned}
 use Rattle.bit_words.specs.declared.value.Value.{Value}
 use Rattle.bit_words.specs.Values.{integer_of}
 use Rattle.bit_words.proofs.Congruence.{bits_below}
-use Rattle.cycle_values.specs.Values.{fitted}
-use Rattle.cycle_values.specs.Ports.{Shown, Held, after_port, after_ports}
-use Rattle.cycle_values.proofs.Fittings.{same_value, fitted_same}
+use Rattle.prim_ops.specs.Values.{fitted}
+use Rattle.prim_ops.specs.Ports.{Shown, Held, after_port, after_ports}
+use Rattle.prim_ops.proofs.Fittings.{same_value, fitted_same}
 use Rattle.ground_net.specs.declared.net.Leaf.{Leaf}
 use Rattle.ground_net.specs.declared.net.Net.{Net}
 use Rattle.ground_net.specs.declared.net.NetRegister.{NetRegister}
@@ -18,14 +18,14 @@ use Rattle.ground_net.specs.declared.net.NetMemory.{NetMemory}
 use Rattle.ground_net.specs.declared.net.ElementLeaf.{ElementLeaf}
 use Rattle.ground_net.specs.declared.net.NetPort.{NetPort}
 use Rattle.ground_net.specs.Grounds.{Instant, value}
-use Rattle.net_meaning.specs.Cycles.{NetState, Inputs, Valuation, Settled, instant_of, fitted_to, fitted_to_element, depth_of, next_of_register, next_of_memory, next_of_capture, shown, taken, Capture, captures}
-use Rattle.net_meaning.specs.Nets.{IsNet, IsWithin, element_shape, shape_or_none, element_shapes}
-use Rattle.net_meaning.specs.Words.{words_of, state_of}
-use Rattle.net_meaning.proofs.Placing.{registers_back, contents_back, captured_back}
-use Rattle.net_meaning.proofs.Settling.{get_there}
-use Rattle.net_meaning.proofs.Ranges.{capture_from}
-use Rattle.sink_effects.specs.Effects.{register_shape, capture_shape}
-use Rattle.sink_effects.proofs.Parts.{register_shape_at, capture_shape_at}
+use Rattle.ground_net.specs.Cycles.{NetState, Inputs, Valuation, Settled, instant_of, fitted_to, fitted_to_element, depth_of, next_of_register, next_of_memory, next_of_capture, shown, taken, Capture, captures}
+use Rattle.ground_net.specs.Nets.{IsNet, IsWithin, element_shape, shape_or_none, element_shapes}
+use Rattle.ground_net.specs.Words.{words_of, state_of}
+use Rattle.ground_net.proofs.Placing.{registers_back, contents_back, captured_back}
+use Rattle.ground_net.proofs.Settling.{get_there}
+use Rattle.ground_net.proofs.Ranges.{capture_from}
+use Rattle.partition_code.specs.Effects.{register_shape, capture_shape}
+use Rattle.partition_code.proofs.Parts.{register_shape_at, capture_shape_at}
 
 -- widths are narrow
 narrow_or_none : (o : Option Leaf) → (shape_or_none o).width ≤ 128

@@ -3,19 +3,19 @@ use Rattle.std.proofs.Common.{◌≡◌, ◌≢◌, ℕ, ◌+◌, ◌<◌, ◌�
 use Rattle.std.proofs.lemmas.Bool.{eq-eqb}
 use Rattle.phase_core.specs.declared.model.Publication.{Publication}
 use Rattle.phase_core.specs.Script.{published}
-use Rattle.cycle_values.specs.Values.{fitted}
+use Rattle.prim_ops.specs.Values.{fitted}
 use Rattle.ground_net.specs.declared.net.Net.{Net}
 use Rattle.ground_net.specs.Grounds.{Instant}
 use Rattle.ground_net.specs.Cones.{numbered}
-use Rattle.net_meaning.specs.Cycles.{NetState, Capture, captures, next}
-use Rattle.net_meaning.specs.Nets.{register_shapes, captured_shapes}
-use Rattle.net_meaning.specs.Words.{kept, word_count, count_words, memory_words, captured_word, state_words}
-use Rattle.net_meaning.proofs.Placing.{kept_length, numbered_is}
+use Rattle.ground_net.specs.Cycles.{NetState, Capture, captures, next}
+use Rattle.ground_net.specs.Nets.{register_shapes, captured_shapes}
+use Rattle.ground_net.specs.Words.{kept, word_count, count_words, memory_words, captured_word, state_words}
+use Rattle.ground_net.proofs.Placing.{kept_length, numbered_is}
 use Rattle.flat_code.specs.Meaning.{stored}
-use Rattle.sink_effects.specs.Effects.{capture_shape, capture_told, captures_told}
-use Rattle.sink_effects.proofs.Parts.{capture_shape_at, captured_part}
-use Rattle.sink_effects.proofs.Lists.{each_flat, from_numbered}
-use Rattle.sink_effects.proofs.Publishing.{Silent, only_one}
+use Rattle.partition_code.specs.Effects.{capture_shape, capture_told, captures_told}
+use Rattle.partition_code.proofs.Parts.{capture_shape_at, captured_part}
+use Rattle.partition_code.proofs.Lists.{each_flat, from_numbered}
+use Rattle.partition_code.proofs.Publishing.{Silent, only_one}
 use Rattle.partition_code.proofs.Placed.{Holds}
 use Rattle.partition_code.proofs.Left.{kept_stored, kept_silent, silent_where}
 use Rattle.partition_code.proofs.Writes.{leaves_apart}

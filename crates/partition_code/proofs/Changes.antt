@@ -6,7 +6,7 @@ use Rattle.phase_core.specs.Script.{published, published_all}
 use Rattle.phase_core.proofs.Lists.{at_index, set_again}
 use Rattle.phase_core.proofs.Values.{length-published}
 use Rattle.flat_code.specs.Meaning.{changed}
-use Rattle.sink_effects.proofs.Lists.{Each, each_cons}
+use Rattle.partition_code.proofs.Lists.{Each, each_cons}
 
 -- what is so of all publications is so of those that change something
 pub each_changed : (P : Publication → Type 0) (n : ℕ) (words : List ℕ) (ps : List Publication) → Each P ps → Each P (changed n words ps)

@@ -5,13 +5,13 @@ use Rattle.std.proofs.lemmas.Bool.{ltb-false}
 use Rattle.bit_words.specs.declared.value.Value.{Value}
 use Rattle.phase_core.specs.declared.model.Publication.{Publication}
 use Rattle.phase_core.specs.Script.{published}
-use Rattle.cycle_values.specs.Values.{fitted}
-use Rattle.net_meaning.specs.Shapes.{Shape}
-use Rattle.net_meaning.specs.Words.{words_of_value, kept, word_count}
-use Rattle.net_meaning.proofs.Placing.{kept_length}
+use Rattle.prim_ops.specs.Values.{fitted}
+use Rattle.ground_net.specs.Shapes.{Shape}
+use Rattle.ground_net.specs.Words.{words_of_value, kept, word_count}
+use Rattle.ground_net.proofs.Placing.{kept_length}
 use Rattle.flat_code.specs.Meaning.{stored}
-use Rattle.sink_effects.proofs.Lists.{each_none, each_cons}
-use Rattle.sink_effects.proofs.Publishing.{Silent}
+use Rattle.partition_code.proofs.Lists.{each_none, each_cons}
+use Rattle.partition_code.proofs.Publishing.{Silent}
 use Rattle.partition_code.proofs.Placed.{Holds, one_part}
 
 first_kept : (words : List ℕ) (at x y : ℕ) → at + 2 ≤ length words → slice_index (set (set words at x) (at + 1) y) (at + 0) ≡ x

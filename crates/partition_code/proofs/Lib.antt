@@ -12,3 +12,15 @@ mod Nexts
 mod Registers
 pub mod StateCycles
 pub mod Whole
+pub mod PortsLeft
+pub mod Parts
+pub mod Blocks
+pub mod Lists
+pub mod Apart
+pub mod Standing
+pub mod Told
+pub mod Publishing
+pub mod SplitParts
+pub mod Seen
+pub mod Turns
+pub mod Segmenting

@@ -2,21 +2,21 @@
 use Rattle.std.proofs.Common.{◌≡◌, ℕ, ◌+◌, ◌-◌, ◌<◌, ◌≤◌, List, take, sum_by, length, slice_get, slice_index, Some, refl, sym, subst, ap, ◌∙◌, arith}
 use Rattle.phase_core.specs.Script.{published}
 use Rattle.phase_core.proofs.Values.{length-published, published-append}
-use Rattle.cycle_values.specs.Values.{fitted}
+use Rattle.prim_ops.specs.Values.{fitted}
 use Rattle.ground_net.specs.declared.net.Net.{Net}
 use Rattle.ground_net.specs.declared.net.NetRegister.{NetRegister}
 use Rattle.ground_net.specs.declared.net.NetMemory.{NetMemory}
 use Rattle.ground_net.specs.Grounds.{Instant}
 use Rattle.ground_net.specs.Cones.{Sink, A_watched, A_register, A_memory}
-use Rattle.net_meaning.specs.Cycles.{NetState, Capture, captures, next_of_memory, next}
-use Rattle.net_meaning.specs.Nets.{IsNet, IsWithin, register_shapes}
-use Rattle.net_meaning.specs.Words.{kept, word_count, count_words, words_of, register_word, memory_words, memory_word, element_word, captured_word}
-use Rattle.net_meaning.proofs.Placing.{kept_length}
-use Rattle.net_meaning.proofs.Ranges.{capture_from}
+use Rattle.ground_net.specs.Cycles.{NetState, Capture, captures, next_of_memory, next}
+use Rattle.ground_net.specs.Nets.{IsNet, IsWithin, register_shapes}
+use Rattle.ground_net.specs.Words.{kept, word_count, count_words, words_of, register_word, memory_words, memory_word, element_word, captured_word}
+use Rattle.ground_net.proofs.Placing.{kept_length}
+use Rattle.ground_net.proofs.Ranges.{capture_from}
 use Rattle.flat_code.specs.Meaning.{stored}
-use Rattle.sink_effects.specs.Effects.{HasWord, register_shape, capture_shape, of_register, of_elements, of_capture, register_told, writes_told, captures_told, memory_told, sink_told}
-use Rattle.sink_effects.proofs.Parts.{sum_part, register_shape_at, capture_shape_at, register_part}
-use Rattle.sink_effects.proofs.Publishing.{silent}
+use Rattle.partition_code.specs.Effects.{HasWord, register_shape, capture_shape, of_register, of_elements, of_capture, register_told, writes_told, captures_told, memory_told, sink_told}
+use Rattle.partition_code.proofs.Parts.{sum_part, register_shape_at, capture_shape_at, register_part}
+use Rattle.partition_code.proofs.Publishing.{silent}
 use Rattle.partition_code.proofs.Back.{again, next_register_again, next_capture_again}
 use Rattle.partition_code.proofs.Placed.{Holds, words_counted, register_there, element_there, captured_there}
 use Rattle.partition_code.proofs.Left.{kept_stored}

@@ -8,16 +8,16 @@ use Rattle.ground_net.specs.declared.net.Net.{Net}
 use Rattle.ground_net.specs.declared.net.CutPart.{CutPart}
 use Rattle.ground_net.specs.Grounds.{Instant}
 use Rattle.ground_net.specs.Cones.{Sink, sinks}
-use Rattle.net_meaning.specs.Cycles.{NetState, Valuation, instant_of}
-use Rattle.net_meaning.specs.Words.{state_words, state_of}
+use Rattle.ground_net.specs.Cycles.{NetState, Valuation, instant_of}
+use Rattle.ground_net.specs.Words.{state_words, state_of}
 use Rattle.flat_code.specs.declared.code.Code.{Code}
 use Rattle.flat_code.specs.Codes.{published_by}
-use Rattle.sink_effects.specs.Effects.{HasWord, sink_told, sinks_told}
-use Rattle.sink_effects.proofs.Parts.{word_below}
-use Rattle.sink_effects.proofs.Blocks.{some_same, none_some}
-use Rattle.sink_effects.proofs.Lists.{Each, each_flat, item_at, among, from_filter_map, to_filter_map}
-use Rattle.sink_effects.proofs.Standing.{one_place, each_word}
-use Rattle.sink_effects.proofs.Told.{told_own}
+use Rattle.partition_code.specs.Effects.{HasWord, sink_told, sinks_told}
+use Rattle.partition_code.proofs.Parts.{word_below}
+use Rattle.partition_code.proofs.Blocks.{some_same, none_some}
+use Rattle.partition_code.proofs.Lists.{Each, each_flat, item_at, among, from_filter_map, to_filter_map}
+use Rattle.partition_code.proofs.Standing.{one_place, each_word}
+use Rattle.partition_code.proofs.Told.{told_own}
 use Rattle.partition_code.proofs.Changes.{each_changed}
 use Rattle.partition_code.specs.Codes.{register_words, sinks_of_part, owns, owner_in, HasWordAmong, IsCycle, AreOfOneCut}
 

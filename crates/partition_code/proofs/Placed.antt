@@ -3,17 +3,17 @@ use Rattle.std.proofs.Common.{◌≡◌, ℕ, zero, suc, ◌+◌, ◌*◌, ◌/�
 use Rattle.std.specs.List.{flat_map, range_with_len}
 use Rattle.std.proofs.lemmas.Bool.{ltb-false}
 use Rattle.bit_words.specs.declared.value.Value.{Value}
-use Rattle.cycle_values.specs.Values.{fitted}
+use Rattle.prim_ops.specs.Values.{fitted}
 use Rattle.ground_net.specs.declared.net.Net.{Net}
 use Rattle.ground_net.specs.declared.net.NetMemory.{NetMemory}
 use Rattle.ground_net.specs.Cones.{numbered}
-use Rattle.net_meaning.specs.Shapes.{Shape}
-use Rattle.net_meaning.specs.Cycles.{NetState}
-use Rattle.net_meaning.specs.Nets.{register_shapes, element_shapes, captured_shapes}
-use Rattle.net_meaning.specs.Words.{words_of_value, kept, kept_all, words_of_memory, words_of, count_words, register_word, element_words, memory_words, memory_word, element_word, captured_word, state_words}
-use Rattle.net_meaning.proofs.Placing.{At, length_append, at_first, at_last, at_inside, at_place, length_flat_map, sum_all_numbered, kept_all_length, memory_length, kept_at, element_at, memory_at}
+use Rattle.ground_net.specs.Shapes.{Shape}
+use Rattle.ground_net.specs.Cycles.{NetState}
+use Rattle.ground_net.specs.Nets.{register_shapes, element_shapes, captured_shapes}
+use Rattle.ground_net.specs.Words.{words_of_value, kept, kept_all, words_of_memory, words_of, count_words, register_word, element_words, memory_words, memory_word, element_word, captured_word, state_words}
+use Rattle.ground_net.proofs.Placing.{At, length_append, at_first, at_last, at_inside, at_place, length_flat_map, sum_all_numbered, kept_all_length, memory_length, kept_at, element_at, memory_at}
 use Rattle.partition_code.specs.Codes.{AreWords}
-use Rattle.sink_effects.proofs.Lists.{Each, each_none, each_cons, each_append, each_flat}
+use Rattle.partition_code.proofs.Lists.{Each, each_none, each_cons, each_append, each_flat}
 
 -- a piece of words, word by word
 abbrev pub Holds : List ℕ → ℕ → List ℕ → Type 0

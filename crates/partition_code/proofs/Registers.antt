@@ -3,20 +3,20 @@ use Rattle.std.proofs.Common.{◌≡◌, ℕ, ◌+◌, ◌/◌, ◌%◌, ◌^◌
 use Rattle.bit_words.specs.declared.value.Value.{Value}
 use Rattle.phase_core.specs.declared.model.Publication.{Publication}
 use Rattle.phase_core.specs.Script.{published}
-use Rattle.cycle_values.specs.Values.{fitted}
+use Rattle.prim_ops.specs.Values.{fitted}
 use Rattle.ground_net.specs.declared.net.Net.{Net}
 use Rattle.ground_net.specs.declared.net.NetRegister.{NetRegister}
 use Rattle.ground_net.specs.Grounds.{Instant}
 use Rattle.ground_net.specs.Cones.{Sink, A_watched, A_register, A_memory}
-use Rattle.net_meaning.specs.Cycles.{NetState, next}
-use Rattle.net_meaning.specs.Nets.{IsNet, IsWithin}
-use Rattle.net_meaning.specs.Words.{words_of_value, words_of, register_word}
-use Rattle.net_meaning.proofs.Placing.{kept_length}
+use Rattle.ground_net.specs.Cycles.{NetState, next}
+use Rattle.ground_net.specs.Nets.{IsNet, IsWithin}
+use Rattle.ground_net.specs.Words.{words_of_value, words_of, register_word}
+use Rattle.ground_net.proofs.Placing.{kept_length}
 use Rattle.flat_code.specs.Meaning.{stored}
-use Rattle.sink_effects.specs.Effects.{HasWord, of_elements, of_capture, register_shape, register_told, sink_told, sinks_told}
-use Rattle.sink_effects.proofs.Lists.{Each, each_none, each_cons, each_flat}
-use Rattle.sink_effects.proofs.Parts.{register_shape_at, register_part}
-use Rattle.sink_effects.proofs.Told.{told_own}
+use Rattle.partition_code.specs.Effects.{HasWord, of_elements, of_capture, register_shape, register_told, sink_told, sinks_told}
+use Rattle.partition_code.proofs.Lists.{Each, each_none, each_cons, each_flat}
+use Rattle.partition_code.proofs.Parts.{register_shape_at, register_part}
+use Rattle.partition_code.proofs.Told.{told_own}
 use Rattle.partition_code.specs.Codes.{register_words}
 use Rattle.partition_code.proofs.Back.{again}
 use Rattle.partition_code.proofs.Placed.{words_counted}

@@ -2,12 +2,12 @@
 use Rattle.std.proofs.Common.{◌≡◌, ℕ, List, map, slice_get, slice_index, Some, sym}
 use Rattle.bit_words.specs.declared.value.Value.{Value}
 use Rattle.ground_net.specs.declared.net.Net.{Net}
-use Rattle.net_meaning.specs.Cycles.{NetState, Inputs, Valuation, Settled}
-use Rattle.net_meaning.specs.Nets.{IsNet, IsWithin}
-use Rattle.net_meaning.specs.Words.{words_of}
+use Rattle.ground_net.specs.Cycles.{NetState, Inputs, Valuation, Settled}
+use Rattle.ground_net.specs.Nets.{IsNet, IsWithin}
+use Rattle.ground_net.specs.Words.{words_of}
 use Rattle.flat_code.specs.declared.code.Code.{Code}
 use Rattle.flat_code.specs.Codes.{outputs_by}
-use Rattle.code_sequence.specs.FromNets.{MatchInputs}
+use Rattle.partition_code.specs.FromNets.{MatchInputs}
 use Rattle.partition_code.specs.Codes.{IsCycle, AreOfOneCut}
 use Rattle.partition_code.proofs.Owners.{beside}
 use Rattle.partition_code.proofs.Back.{settled_again}

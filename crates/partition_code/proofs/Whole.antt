@@ -6,18 +6,18 @@ use Rattle.phase_core.specs.Script.{published_all}
 use Rattle.phase_core.proofs.Values.{length-published_all}
 use Rattle.ground_net.specs.declared.net.Net.{Net}
 use Rattle.ground_net.specs.Grounds.{Instant}
-use Rattle.net_meaning.specs.Cycles.{NetState, Inputs, Valuation, Settled, instant_of, next}
-use Rattle.net_meaning.specs.Nets.{IsWithin}
-use Rattle.net_meaning.specs.Words.{words_of}
+use Rattle.ground_net.specs.Cycles.{NetState, Inputs, Valuation, Settled, instant_of, next}
+use Rattle.ground_net.specs.Nets.{IsWithin}
+use Rattle.ground_net.specs.Words.{words_of}
 use Rattle.flat_code.specs.declared.code.Code.{Code}
 use Rattle.flat_code.specs.Meaning.{changed}
 use Rattle.flat_code.specs.Codes.{published_by}
-use Rattle.code_sequence.specs.FromNets.{MatchInputs}
-use Rattle.sink_effects.specs.Effects.{sinks_told}
+use Rattle.partition_code.specs.FromNets.{MatchInputs}
+use Rattle.partition_code.specs.Effects.{sinks_told}
 use Rattle.partition_code.specs.Codes.{register_words, sinks_of_part, AreOfOneCut}
-use Rattle.sink_effects.proofs.Standing.{each_word}
-use Rattle.sink_effects.proofs.SplitParts.{left_by_sink}
-use Rattle.sink_effects.proofs.Publishing.{same_list}
+use Rattle.partition_code.proofs.Standing.{each_word}
+use Rattle.partition_code.proofs.SplitParts.{left_by_sink}
+use Rattle.partition_code.proofs.Publishing.{same_list}
 use Rattle.partition_code.proofs.Back.{again, instant_again}
 use Rattle.partition_code.proofs.Placed.{words_counted}
 use Rattle.partition_code.proofs.StateCycles.{cycle_of}

@@ -5,24 +5,24 @@ use Rattle.std.proofs.Math.Nat.{mul-le-mul_right, suc-mul}
 use Rattle.std.proofs.lemmas.Bool.{eqb-true, eqb-false, cases_lt, cases_eq}
 use Rattle.phase_core.specs.Script.{published}
 use Rattle.phase_core.proofs.Values.{length-published}
-use Rattle.cycle_values.specs.Values.{fitted}
-use Rattle.cycle_values.specs.Ports.{Held, Shown, after_port, after_ports}
+use Rattle.prim_ops.specs.Values.{fitted}
+use Rattle.prim_ops.specs.Ports.{Held, Shown, after_port, after_ports}
 use Rattle.ground_net.specs.declared.net.Net.{Net}
 use Rattle.ground_net.specs.declared.net.NetMemory.{NetMemory}
 use Rattle.ground_net.specs.declared.net.NetPort.{NetPort}
 use Rattle.ground_net.specs.Grounds.{Instant}
 use Rattle.ground_net.specs.Cones.{numbered}
-use Rattle.net_meaning.specs.Shapes.{Shape}
-use Rattle.net_meaning.specs.Cycles.{shown}
-use Rattle.net_meaning.specs.Nets.{element_shapes}
-use Rattle.net_meaning.specs.Words.{kept, word_count, count_words, element_words, memory_words, memory_word, element_word, state_words}
-use Rattle.net_meaning.proofs.Placing.{kept_length, numbered_is}
+use Rattle.ground_net.specs.Shapes.{Shape}
+use Rattle.ground_net.specs.Cycles.{shown}
+use Rattle.ground_net.specs.Nets.{element_shapes}
+use Rattle.ground_net.specs.Words.{kept, word_count, count_words, element_words, memory_words, memory_word, element_word, state_words}
+use Rattle.ground_net.proofs.Placing.{kept_length, numbered_is}
 use Rattle.flat_code.specs.Meaning.{stored}
-use Rattle.sink_effects.specs.Effects.{leaf_told, port_told}
-use Rattle.sink_effects.proofs.Parts.{sum_part, element_part, memory_part}
-use Rattle.sink_effects.proofs.Blocks.{one_block, block_of}
-use Rattle.sink_effects.proofs.Lists.{from_numbered}
-use Rattle.sink_effects.proofs.Publishing.{Silent, silent, in_two, only_one}
+use Rattle.partition_code.specs.Effects.{leaf_told, port_told}
+use Rattle.partition_code.proofs.Parts.{sum_part, element_part, memory_part}
+use Rattle.partition_code.proofs.Blocks.{one_block, block_of}
+use Rattle.partition_code.proofs.Lists.{from_numbered}
+use Rattle.partition_code.proofs.Publishing.{Silent, silent, in_two, only_one}
 use Rattle.partition_code.proofs.Placed.{Holds}
 use Rattle.partition_code.proofs.Left.{kept_stored, kept_silent, silent_where}
 

@@ -7,15 +7,15 @@ use Rattle.ground_net.specs.declared.net.Ordered.{Ordered}
 use Rattle.ground_net.specs.declared.net.CutPart.{CutPart}
 use Rattle.ground_net.specs.Cones.{Sink, sinks}
 use Rattle.ground_net.specs.Reads.{IsOrder}
-use Rattle.net_meaning.specs.Cycles.{Inputs, Valuation, Settled, instant_of}
-use Rattle.net_meaning.specs.Nets.{IsNet, register_shapes}
-use Rattle.net_meaning.specs.Words.{count_words, state_words, state_of}
+use Rattle.ground_net.specs.Cycles.{Inputs, Valuation, Settled, instant_of}
+use Rattle.ground_net.specs.Nets.{IsNet, register_shapes}
+use Rattle.ground_net.specs.Words.{count_words, state_words, state_of}
 use Rattle.flat_code.specs.declared.code.Code.{Code}
 use Rattle.flat_code.specs.declared.code.Span.{Span}
 use Rattle.flat_code.specs.Meaning.{changed}
 use Rattle.flat_code.specs.Codes.{published_by, outputs_by}
-use Rattle.code_sequence.specs.FromNets.{MatchInputs}
-use Rattle.sink_effects.specs.Effects.{sinks_told, HasWord}
+use Rattle.partition_code.specs.FromNets.{MatchInputs}
+use Rattle.partition_code.specs.Effects.{sinks_told, HasWord}
 use Rattle.cone_cutter.specs.Splits.{IsSplit}
 
 -- The sinks of a part, and the positions in the watch list of those that are watched: these are the first numbers.

@@ -4,8 +4,8 @@ ghost use Rattle.std.specs.Prelude.{◌≡◌, ◌<◌, ◌^◌, ℕ, List, Some
 ghost use Rattle.bit_words.specs.declared.value.Value.{Value as TheValue};
 ghost use Rattle.phase_core.specs.declared.model.Publication.{Publication as ThePublication};
 ghost use Rattle.ground_net.specs.declared.net.CutPart.{CutPart as ThePart};
-ghost use Rattle.net_meaning.specs.Cycles.{Valuation};
-ghost use Rattle.net_meaning.specs.Words.{state_words};
+ghost use Rattle.ground_net.specs.Cycles.{Valuation};
+ghost use Rattle.ground_net.specs.Words.{state_words};
 ghost use Rattle.flat_code.specs.declared.code.Code.{Code as TheCode};
 ghost use Rattle.flat_code.specs.Codes.{published_by};
 ghost use Rattle.cone_cutter.specs.Splits.{Rises};

@@ -4,12 +4,12 @@ ghost use Rattle.std.specs.Prelude.{◌≡◌, ℕ, List, Some, map, length, sli
 ghost use Rattle.bit_words.specs.declared.value.Value.{Value as TheValue};
 ghost use Rattle.phase_core.specs.Script.{published_all};
 ghost use Rattle.ground_net.specs.declared.net.Net.{Net as TheNet};
-ghost use Rattle.net_meaning.specs.Cycles.{NetState, Inputs, Valuation, Settled, instant_of, next};
-ghost use Rattle.net_meaning.specs.Nets.{IsNet, IsWithin};
-ghost use Rattle.net_meaning.specs.Words.{state_words, words_of};
+ghost use Rattle.ground_net.specs.Cycles.{NetState, Inputs, Valuation, Settled, instant_of, next};
+ghost use Rattle.ground_net.specs.Nets.{IsNet, IsWithin};
+ghost use Rattle.ground_net.specs.Words.{state_words, words_of};
 ghost use Rattle.flat_code.specs.declared.code.Code.{Code as TheCode};
 ghost use Rattle.flat_code.specs.Codes.{published_by, outputs_by};
-ghost use Rattle.code_sequence.specs.FromNets.{MatchInputs};
+ghost use Rattle.partition_code.specs.FromNets.{MatchInputs};
 ghost use Rattle.partition_code.specs.Codes.{AreWords, IsCycle, AreOfOneCut};
 
 /// The words of a state with the publications of all codes of a cut applied are the words of the next state.

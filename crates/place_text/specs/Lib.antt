@@ -1,1 +1,4 @@
 pub mod Places
+pub mod Order
+pub mod First
+pub mod Verdicts

@@ -1,35 +1,36 @@
-//! The line that says which fault a text has, and where.
+//! What each stage's faults tell.
 
-ghost use Rattle.std.specs.Prelude.{◌≡◌, IfOk};
-ghost use Rattle.place_text.specs.Places.{fault_line_bytes};
+ghost use Rattle.std.specs.Prelude.{◌≡◌, ℕ, List, Option, None};
+ghost use Rattle.place_text.specs.declared.place.Place.{Place as APlace};
 
-use crate::place::{Place, TextPart};
-use itoa::Buffer;
-use std::alloc::{AllocError, Global};
+use crate::place::Place;
 
-/// The line `circuit KIND L:C`, `stimulus KIND L:C` or `state KIND L:C`, with its line feed, for a fault of this kind at
-/// this place.
-#[tactic(auto, unfolding(crate::specs::Places::fault_line_bytes))]
-pub fn fault_line(
-    alloc: Global,
-    part: TextPart,
-    kind: &str,
-    place: Place,
-) -> Result<Vec<u8>, AllocError>
-    ensures { IfOk result (λ line. line.items ≡ fault_line_bytes part kind.now place) }
-{
-    let word = match part {
-        TextPart::Circuit => "circuit ",
-        TextPart::Stimulus => "stimulus ",
-        TextPart::State => "state ",
-    };
-    let mut digits = Buffer::new();
-    let mut line = Vec::from_slice(alloc, word.as_bytes())?;
-    line.extend_from_slice(kind.as_bytes())?;
-    line.push(b' ')?;
-    line.extend_from_slice(digits.format(place.line).as_bytes())?;
-    line.push(b':')?;
-    line.extend_from_slice(digits.format(place.column).as_bytes())?;
-    line.push(b'\n')?;
-    Ok(line)
+/// The reasons for which a stage refuses: faults with their places, and want of memory, which has none.
+pub trait Fault: Copy {
+    /// Where the fault stands; want of memory alone stands nowhere.
+    ghost place: { Self → Option APlace };
+
+    /// Of two faults at one place, that of the lower rank is told.
+    ghost rank: { Self → ℕ };
+
+    /// The name of its kind, as the fault's line has it.
+    ghost kind: { Self → List ℕ };
+
+    /// The place of the fault.
+    fn place(&self) -> Option<Place>
+        ensures { result ≡ place self.now };
+
+    /// The rank of the fault.
+    fn rank(&self) -> u8
+        ensures { result ≡ rank self.now };
+
+    /// The name of its kind.
+    fn kind(&self) -> &'static str
+        ensures { result.now ≡ kind self.now };
+
+    /// Two faults of one place and one rank are the same.
+    ghost one_each: { (fault other : Self) → place fault ≡ place other → rank fault ≡ rank other → fault ≡ other };
+
+    /// Want of memory is one.
+    ghost one_nowhere: { (fault other : Self) → place fault ≡ None → place other ≡ None → fault ≡ other };
 }

@@ -8,7 +8,7 @@ use Rattle.bit_words.specs.declared.value.Kind.{Kind}
 use Rattle.bit_words.specs.declared.value.Kind.TheVariants.{Unsigned, Signed}
 use Rattle.bit_words.specs.declared.value.Value.{Value}
 use Rattle.bit_words.specs.Values.{integer, integer_of}
-use Rattle.cycle_values.specs.Values.{fitted}
+use Rattle.prim_ops.specs.Values.{fitted}
 use Rattle.plain_values.specs.Sites.{integer_or_zero}
 
 pub or_zero : (o : Option Value) (z : Value) → z ≡ fitted Unsigned 0 (pos 0) → integer_of (unwrap_or o z) ≡ integer_or_zero o

@@ -3,7 +3,7 @@ use Rattle.std.proofs.Common.{◌≡◌, ℕ, zero, suc, ◌+◌, ◌<◌, ◌&&
 use Rattle.std.specs.List.{list_all, list_any}
 use Rattle.std.proofs.lemmas.Grind.{common_steps}
 use Rattle.std.proofs.lemmas.List.{take_more, map-append}
-use Rattle.cycle_values.specs.Shapes.{Shape}
+use Rattle.prim_ops.specs.Shapes.{Shape}
 use Rattle.fir_tree.specs.declared.expr.Expr.{Expr}
 use Rattle.fir_tree.specs.declared.stmt.Stmt.{Stmt, the_lemmas as stmt_lemmas}
 use Rattle.fir_tree.specs.declared.stmt.Stmt.TheVariants as stmt

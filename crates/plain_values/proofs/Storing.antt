@@ -22,8 +22,8 @@ use Rattle.place_text.specs.declared.place.Place.{Place}
 use Rattle.fir_types.specs.Leaves.{leaves}
 use Rattle.fir_types.specs.Memories.{depth_of}
 use Rattle.fir_types.proofs.Lines.{lines_more}
-use Rattle.cycle_values.specs.Ports as port_rules
-use Rattle.cycle_values.specs.Ports.{Shown}
+use Rattle.prim_ops.specs.Ports as port_rules
+use Rattle.prim_ops.specs.Ports.{Shown}
 use Rattle.fir_meaning.specs.Components.{ports_bundle}
 use Rattle.fir_meaning.specs.Values.{beside, lone}
 use Rattle.fir_meaning.specs.Drives.{same_step, same_way}

@@ -9,8 +9,8 @@ use Rattle.prim_ops.specs.declared.operation.PrimOp.{PrimOp}
 use Rattle.fir_tree.specs.declared.expr.Expr.{Expr}
 use Rattle.fir_tree.specs.declared.expr.Form.TheVariants as form
 use Rattle.fir_tree.specs.declared.expr.Form.TheOpen.{Form-F}
-use Rattle.cycle_values.specs.Shapes.{Shape, shape_of_value, all_of, shape_of_row, is_unsigned}
-use Rattle.cycle_values.specs.Values.{lone, operation}
+use Rattle.prim_ops.specs.Shapes.{Shape, shape_of_value, all_of, shape_of_row, is_unsigned}
+use Rattle.prim_ops.specs.Values.{lone, operation}
 use Rattle.fir_meaning.specs.WellTyped as kinds
 use Rattle.fir_meaning.specs.WellTyped.{Known, typed, is_typed, is_one_unsigned, lone_shape, wider_each}
 use Rattle.fir_meaning.specs.Values as tree

@@ -4,7 +4,7 @@ use Rattle.bit_words.specs.declared.value.Value.{Value}
 use Rattle.bit_words.specs.Values.{integer_of}
 use Rattle.fir_types.specs.declared.leaf.TypeLeaf.{TypeLeaf}
 use Rattle.fir_types.specs.declared.leaf.PathStep.{PathStep}
-use Rattle.cycle_values.specs.Ports.{Shown}
+use Rattle.prim_ops.specs.Ports.{Shown}
 
 -- A leaf with the value beside it: what the port writes there, where its mask is 1, and else what it held.
 abbrev pub over : Shown (List PathStep) → TypeLeaf × Value → ℤ

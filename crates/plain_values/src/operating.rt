@@ -1,7 +1,7 @@
 //! Operations.
 
 ghost use Rattle.std.specs.Prelude.{◌≡◌};
-ghost use Rattle.cycle_values.specs.Values.{operation, lone};
+ghost use Rattle.prim_ops.specs.Values.{operation, lone};
 ghost use Rattle.plain_values.specs.Applying.{Applies};
 
 use crate::fitting::zero;

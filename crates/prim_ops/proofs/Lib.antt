@@ -4,3 +4,4 @@ pub mod Rows
 pub mod Moves
 pub mod Divisions
 pub mod Examples
+pub mod Fittings

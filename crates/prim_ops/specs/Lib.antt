@@ -3,3 +3,6 @@ pub mod Kinds
 pub mod Widths
 pub mod Results
 pub mod Integers
+pub mod Values
+pub mod Ports
+pub mod Shapes

@@ -1,8 +1,11 @@
 //! The primitive operations: how they are written, how many operands and parameters each takes, and the kind, the width and
-//! the value of its result. The contracts give for each operation exactly its row of the table.
+//! the value of its result. The contracts give for each operation exactly its row of the table. Beside them stands what the
+//! meaning of a circuit and the meaning of its net both say of values: the value that an integer is fitted to, the value of
+//! an operation, when a condition holds, and what the ports of a memory write and read, with laws of these definitions.
 #![tactic(auto)]
 
 mod bitwise;
+pub mod cycle_laws;
 pub mod kinds;
 pub mod laws;
 pub mod operation;

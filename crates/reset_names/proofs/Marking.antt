@@ -11,9 +11,9 @@ use Rattle.fir_names.specs.Extents.{Marks, Mark, stmt_marks, marks_in, all_marks
 use Rattle.fir_names.specs.Scopes.{module_names}
 use Rattle.fitted_laws.specs.Shaped as shaping
 use Rattle.fitted_laws.specs.Shaped.{is_shaped_stmt, is_shaped_module, is_shaped_circuit}
-use Rattle.reset_feeds.specs.Feeds.{ports_count, all_ports}
-use Rattle.reset_feeds.specs.Resolved.{Becomes, all_from, in_all, becomes_stmt, resolved, resolved_ports, resolved_modules, resolved_circuit, IsResolved}
-use Rattle.reset_feeds.proofs.Blind.{IsBlind, same}
+use Rattle.reset_search.specs.Feeds.{ports_count, all_ports}
+use Rattle.reset_search.specs.Resolved.{Becomes, all_from, in_all, becomes_stmt, resolved, resolved_ports, resolved_modules, resolved_circuit, IsResolved}
+use Rattle.reset_search.proofs.Blind.{IsBlind, same}
 
 marks_blind : IsBlind extents.of_stmt
 marks_blind = record { wire = λ name t u. refl; reg = λ name t u clock. refl; reg_reset = λ name t u clock reset init. refl; mem = λ reached n memory. refl }

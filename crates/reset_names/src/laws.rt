@@ -1,14 +1,14 @@
 //! Laws of the names of resolved circuits.
 
 ghost use Rattle.std.specs.Prelude.{◌≡◌, ◌↔◌};
-ghost use Rattle.fault_order.specs.First.{HasNone};
+ghost use Rattle.place_text.specs.First.{HasNone};
 ghost use Rattle.fir_tree.specs.declared.circuit.Circuit.{Circuit as ACircuit};
 ghost use Rattle.fir_tree.specs.declared.scope.Scope.{Scope as AScope};
 ghost use Rattle.fir_names.specs.declared.fault.NameFault.{NameFault as AFault};
 ghost use Rattle.fir_names.specs.Scopes.{IsScope};
 ghost use Rattle.fir_names.specs.Faults.{IsFault};
 ghost use Rattle.fitted_laws.specs.Shaped.{is_shaped_circuit};
-ghost use Rattle.reset_feeds.specs.Resolved.{IsResolved};
+ghost use Rattle.reset_search.specs.Resolved.{IsResolved};
 
 /// The names of a resolved circuit mean what they mean in the circuit.
 pub fn resolved_circuits_have_the_same_scopes()

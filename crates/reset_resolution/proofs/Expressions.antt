@@ -1,10 +1,9 @@
--- What the definitions say of expressions and statements by their forms.
-use Rattle.std.proofs.Common.{arith, ◌≡◌, ℕ, zero, suc, ◌+◌, ◌<◌, ◌≤◌, Bool, true, false, ◌||◌, List, [], ◌∷◌, ◌++◌, map, take, drop, length, get_or, Option, Some, None, refl, sym, ap, ap₂, ◌∙◌, nat_eq, if◌then◌else◌}
+-- What the definitions say of expressions by their forms.
+use Rattle.std.proofs.Common.{arith, ◌≡◌, ℕ, zero, suc, ◌+◌, ◌<◌, ◌≤◌, Bool, true, false, List, [], ◌∷◌, ◌++◌, map, take, drop, length, get_or, Option, Some, None, refl, sym, ap, ap₂, ◌∙◌, nat_eq, if◌then◌else◌}
 use Rattle.std.proofs.lemmas.Grind.{common_steps}
 use Rattle.std.proofs.lemmas.Simd.{map-map}
 use Rattle.std.proofs.lemmas.List.{map-append, take_more}
 use Rattle.std.specs.Prelude.{option_map, option_and_then}
-use Rattle.std.specs.List.{list_any}
 use Rattle.std.specs.Map.{lookup}
 use Rattle.bit_words.specs.declared.value.Kind.{Kind}
 use Rattle.fir_types.specs.declared.name.Name.{Name}
@@ -13,29 +12,10 @@ use Rattle.prim_ops.specs.Kinds.{row_kind}
 use Rattle.fir_tree.specs.declared.expr.Expr.{Expr, the_lemmas}
 use Rattle.fir_tree.specs.declared.expr.Suffix.{Suffix}
 use Rattle.fir_tree.specs.declared.expr.Form.TheVariants as form
-use Rattle.fir_tree.specs.declared.stmt.Stmt.{Stmt, the_lemmas as stmt_lemmas}
-use Rattle.fir_tree.specs.declared.stmt.Arm.{Arm}
-use Rattle.fir_tree.specs.declared.stmt.Stmt.TheVariants as stmt
-use Rattle.reset_feeds.specs.declared.spot.Reach.{Reach}
-use Rattle.reset_feeds.specs.Grounds.{are_alike}
-use Rattle.reset_feeds.specs.Feeds.{Known, Step, along, reached_by, operation, result, choice, reach, signs_of, with_sign}
-use Rattle.reset_feeds.specs.Sources.{any_of, is_a_cast, stmt_source, arm_source}
+use Rattle.reset_search.specs.declared.spot.Reach.{Reach}
+use Rattle.reset_search.specs.Grounds.{are_alike}
+use Rattle.reset_search.specs.Feeds.{Known, Step, along, reached_by, operation, result, choice, reach, signs_of, with_sign}
 use Rattle.reset_resolution.specs.Layers.{suffix_step}
-
-any-map : {A : Type 0} (f : A → Bool) (xs : List A) → any_of (map f xs) ≡ list_any f xs
-any-map f [] = refl
-any-map f (x ∷ xs) = ap (λ b. f x || b) (any-map f xs)
-
--- Sources
-
-pub cast-mux : (e : Expr) (operands : List Expr) → e.form ≡ form.Mux operands → is_a_cast e ≡ list_any is_a_cast operands
-cast-mux e operands h = grind (arith, common_steps, the_lemmas, any-map)
-
-pub source-when : (s : Stmt) (arms : List Arm) (other : List Stmt) → s ≡ stmt.When arms other → stmt_source s ≡ (list_any arm_source arms || list_any stmt_source other)
-source-when s arms other h = grind (arith, common_steps, stmt_lemmas, any-map)
-
-pub source-arm : (a : Arm) → arm_source a ≡ list_any stmt_source a.body
-source-arm a = grind (arith, common_steps, stmt_lemmas, any-map)
 
 -- What expressions come to
 

@@ -5,8 +5,8 @@ use Rattle.std.specs.Prelude.{option_map}
 use Rattle.std.specs.Map.{lookup}
 use Rattle.std.proofs.lemmas.Bool.{eqb-true}
 use Rattle.std.proofs.lemmas.List.{take_more}
-use Rattle.reset_feeds.specs.declared.spot.Reach.{Reach}
-use Rattle.reset_feeds.specs.Feeds.{Known, WithPorts, known_with, instance_reach, instance_in}
+use Rattle.reset_search.specs.declared.spot.Reach.{Reach}
+use Rattle.reset_search.specs.Feeds.{Known, WithPorts, known_with, instance_reach, instance_in}
 use Rattle.reset_resolution.specs.Walked.{listed, AreInstances}
 
 pub next : {X : Type 0} (xs : List X) (i : ℕ) (x : X) → i < length xs → x ≡ get_or xs i x → take (i + 1) xs ≡ take i xs ++ x ∷ []

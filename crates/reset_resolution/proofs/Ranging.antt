@@ -3,13 +3,13 @@ use Rattle.std.proofs.Common.{arith, ◌≡◌, ℕ, ◌+◌, Bool, true, false,
 use Rattle.std.specs.List.{range_with_len}
 use Rattle.std.proofs.lemmas.List.FromFn.{map-range_with_len_more}
 use Rattle.bit_words.specs.declared.value.Kind.{Kind}
-use Rattle.reset_feeds.specs.declared.ground.Ground.{Ground}
-use Rattle.reset_feeds.specs.declared.spot.Spot.{Spot}
-use Rattle.reset_feeds.specs.declared.spot.Spot.TheVariants.{Declared, OfNode}
-use Rattle.reset_feeds.specs.declared.spot.Feed.{Feed}
-use Rattle.reset_feeds.specs.declared.spot.Reach.{Reach}
-use Rattle.reset_feeds.specs.Grounds.{grounds, are_alike}
-use Rattle.reset_feeds.specs.Feeds.{declared_from, node_from, asyncs_among, pairs, fed_by, connected, ports_asyncs, with_sign, signs_of, choice}
+use Rattle.reset_search.specs.declared.ground.Ground.{Ground}
+use Rattle.reset_search.specs.declared.spot.Spot.{Spot}
+use Rattle.reset_search.specs.declared.spot.Spot.TheVariants.{Declared, OfNode}
+use Rattle.reset_search.specs.declared.spot.Feed.{Feed}
+use Rattle.reset_search.specs.declared.spot.Reach.{Reach}
+use Rattle.reset_search.specs.Grounds.{grounds, are_alike}
+use Rattle.reset_search.specs.Feeds.{declared_from, node_from, asyncs_among, pairs, fed_by, connected, ports_asyncs, with_sign, signs_of, choice}
 use Rattle.fir_types.specs.declared.port.Port.{Port}
 
 pub declared_more : (n k : ℕ) → declared_from n (k + 1) ≡ declared_from n k ++ Declared (n + k) ∷ []

@@ -13,9 +13,9 @@ use Rattle.fir_types.specs.declared.index.FieldPlace.{FieldPlace}
 use Rattle.fir_types.specs.Indexes.{first_at}
 use Rattle.fir_types.specs.Spots.{size}
 use Rattle.type_index.specs.Knowing.{weight, IsPlaceIn, fields_in, element_in as inner_of}
-use Rattle.reset_feeds.specs.declared.spot.Spot.{Spot}
-use Rattle.reset_feeds.specs.declared.spot.Reach.{Reach}
-use Rattle.reset_feeds.specs.Feeds.{Step, along, reach, field_among, field_of, field_step, element_in, element_step}
+use Rattle.reset_search.specs.declared.spot.Spot.{Spot}
+use Rattle.reset_search.specs.declared.spot.Reach.{Reach}
+use Rattle.reset_search.specs.Feeds.{Step, along, reach, field_among, field_of, field_step, element_in, element_step}
 
 pub along_none : (steps : List Step) → along steps None ≡ None
 along_none [] = refl

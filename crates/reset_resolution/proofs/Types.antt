@@ -2,7 +2,6 @@
 use Rattle.std.proofs.Common.{arith, ◌≡◌, ℕ, zero, suc, ◌+◌, ◌<◌, Bool, true, false, not, ◌||◌, ◌&&◌, List, [], ◌∷◌, ◌++◌, map, take, drop, length, get_or, Option, Some, None, refl, sym, ap, ap₂, ◌∙◌, subst, nat_eq, if◌then◌else◌, append_assoc, append-nil}
 use Rattle.std.proofs.lemmas.Grind.{common_steps}
 use Rattle.std.specs.Prelude.{flat_map, nat_lt}
-use Rattle.std.specs.List.{list_any}
 use Rattle.std.specs.Bool.{beq}
 use Rattle.std.proofs.lemmas.List.{map-append, take_more}
 use Rattle.std.proofs.lemmas.List.Folds.{flat_map-map}
@@ -14,29 +13,10 @@ use Rattle.fir_types.specs.declared.fir_type.Shape.TheVariants as shape
 use Rattle.fir_types.specs.declared.fir_type.Shape.TheVariants.{outs-Bundle, outs-Vector}
 use Rattle.fir_types.specs.declared.fir_type.Shape.TheViews.{out-Shape}
 use Rattle.fir_types.specs.declared.fir_type.Field.{Field}
-use Rattle.reset_feeds.specs.declared.ground.Ground.{Ground}
-use Rattle.reset_feeds.specs.declared.ground.Word.TheVariants.{OfUint, OfSint, OfReset, OfAsync}
-use Rattle.reset_feeds.specs.Grounds.{grounds, turned, within, one, are_alike, is_one_bit_or_uint, is_sint, is_clock, bundle_takes, vector_takes, all_take, same_flip}
-use Rattle.reset_feeds.specs.Sources.{any_of, holds_async, field_holds_async}
+use Rattle.reset_search.specs.declared.ground.Ground.{Ground}
+use Rattle.reset_search.specs.declared.ground.Word.TheVariants.{OfUint, OfSint, OfReset, OfAsync}
+use Rattle.reset_search.specs.Grounds.{grounds, turned, within, one, are_alike, is_one_bit_or_uint, is_sint, is_clock, bundle_takes, vector_takes, all_take, same_flip}
 use Rattle.reset_resolution.specs.Layers.{seen, field_grounds, field_alike, is_uint_like}
-
--- AsyncResets
-
-any-map : {A : Type 0} (f : A → Bool) (xs : List A) → any_of (map f xs) ≡ list_any f xs
-any-map f [] = refl
-any-map f (x ∷ xs) = ap (λ b. f x || b) (any-map f xs)
-
-pub holds-bundle : (t : FirType) (fields : List Field) → t.shape ≡ shape.Bundle fields → holds_async t ≡ list_any field_holds_async fields
-holds-bundle t fields e = grind (arith, common_steps, the_lemmas, any-map)
-
-pub holds-vector : (t element : FirType) (n : ℕ) → t.shape ≡ shape.Vector element n → holds_async t ≡ holds_async element
-holds-vector t element n e = grind (arith, common_steps, the_lemmas)
-
-pub holds-async : (t : FirType) → t.shape ≡ shape.AsyncReset → holds_async t ≡ true
-holds-async t e = grind (arith, common_steps, the_lemmas)
-
-pub holds-field : (f : Field) → field_holds_async f ≡ holds_async f.typ
-holds-field f = grind (arith, common_steps, the_lemmas)
 
 -- Ground places
 

@@ -1,9 +1,9 @@
 -- One part of a body walked behind another, and bodies behind one another.
 use Rattle.std.proofs.Common.{◌≡◌, ℕ, ◌+◌, ◌<◌, List, [], ◌∷◌, ◌++◌, map, length, take, get_or, Option, Some, None, refl, sym, ap, ap₂, ◌∙◌, arith, append_assoc, append-nil}
 use Rattle.fir_tree.proofs.Turns.{Turns, walks_push as one_more}
-use Rattle.reset_feeds.specs.declared.spot.Spot.{Spot}
-use Rattle.reset_feeds.specs.declared.spot.Feed.{Feed}
-use Rattle.reset_feeds.specs.Feeds.{Known, Walk, Gathered, and_then, in_turn, nothing}
+use Rattle.reset_search.specs.declared.spot.Spot.{Spot}
+use Rattle.reset_search.specs.declared.spot.Feed.{Feed}
+use Rattle.reset_search.specs.Feeds.{Known, Walk, Gathered, and_then, in_turn, nothing}
 use Rattle.reset_resolution.specs.declared.walk.Found.{Found}
 use Rattle.reset_resolution.specs.Walked.{Walks}
 

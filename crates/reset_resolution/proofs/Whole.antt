@@ -2,11 +2,11 @@
 use Rattle.std.proofs.Common.{◌≡◌, ℕ, ◌+◌, List, [], ◌∷◌, ◌++◌, refl, sym, ap, ap₂, ◌∙◌}
 use Rattle.fir_tree.specs.declared.circuit.Circuit.{Circuit}
 use Rattle.fir_tree.specs.declared.circuit.Module.{Module}
-use Rattle.reset_feeds.specs.declared.spot.Spot.{Spot}
-use Rattle.reset_feeds.specs.declared.spot.Spot.TheVariants.{Cast}
-use Rattle.reset_feeds.specs.declared.spot.Feed.{Feed}
-use Rattle.reset_feeds.specs.declared.spot.Feeds.{Feeds}
-use Rattle.reset_feeds.specs.Feeds.{Known, Instances, WithPorts, instance_in, bodies_from, modules_from, all_ports, feeds_in}
+use Rattle.reset_search.specs.declared.spot.Spot.{Spot}
+use Rattle.reset_search.specs.declared.spot.Spot.TheVariants.{Cast}
+use Rattle.reset_search.specs.declared.spot.Feed.{Feed}
+use Rattle.reset_search.specs.declared.spot.Feeds.{Feeds}
+use Rattle.reset_search.specs.Feeds.{Known, Instances, WithPorts, instance_in, bodies_from, modules_from, all_ports, feeds_in}
 use Rattle.reset_resolution.specs.Walked.{listed, AreInstances}
 
 pub exactly : (circuit : Circuit) (modules : List Module) (with_ports : List WithPorts) (instances : Known) (next : ℕ) (feeds0 feeds : List Feed) (asyncs0 asyncs : List Spot) → modules ≡ circuit.modules

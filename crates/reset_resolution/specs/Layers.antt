@@ -1,22 +1,17 @@
 -- Parts of the definitions, as the code asks for them.
-use Rattle.std.specs.Prelude.{Bool, not, ◌&&◌, if◌then◌else◌, List, [], filter_map, Option}
+use Rattle.std.specs.Prelude.{Bool, not, ◌&&◌, if◌then◌else◌, List, Option}
 use Rattle.bit_words.specs.declared.value.Kind.{Kind}
 use Rattle.place_text.specs.declared.place.Place.{Place}
 use Rattle.fir_types.specs.declared.fir_type.FirType.{FirType}
 use Rattle.fir_types.specs.declared.fir_type.Shape.{Shape}
-use Rattle.fir_types.specs.declared.fir_type.Shape.TheVariants as shape
 use Rattle.fir_types.specs.declared.fir_type.Shape.TheViews.{out-Shape}
 use Rattle.fir_types.specs.declared.fir_type.Field.{Field, fold-Field}
-use Rattle.fir_types.specs.declared.memory.MemLine.{MemLine}
-use Rattle.fir_types.specs.Bundles.{nowhere}
-use Rattle.fir_types.specs.Memories.{element_in, first_or}
 use Rattle.fir_tree.specs.declared.expr.Suffix.{Suffix, fold-Suffix}
-use Rattle.reset_feeds.specs.declared.ground.Ground.{Ground}
-use Rattle.reset_feeds.specs.declared.spot.Reach.{Reach}
-use Rattle.reset_feeds.specs.Grounds as grounding
-use Rattle.reset_feeds.specs.Grounds.{shape_takes, field_takes, is_one_bit_or_uint}
-use Rattle.reset_feeds.specs.Feeds.{Among, Step, of_form, of_suffix, of_expr, reach, sign_of_layer}
-use Rattle.reset_feeds.specs.Sources.{holds_async}
+use Rattle.reset_search.specs.declared.ground.Ground.{Ground}
+use Rattle.reset_search.specs.declared.spot.Reach.{Reach}
+use Rattle.reset_search.specs.Grounds as grounding
+use Rattle.reset_search.specs.Grounds.{shape_takes, field_takes, is_one_bit_or_uint}
+use Rattle.reset_search.specs.Feeds.{Among, Step, of_form, of_suffix, of_expr, reach, sign_of_layer}
 use Rattle.reset_resolution.specs.declared.steps.View.{View}
 use Rattle.reset_resolution.specs.declared.reaching.Reached.{Reached}
 
@@ -45,7 +40,3 @@ viewed view = reach view.known.typ.now view.spots.now
 
 abbrev pub reached_as : Reached → Reach
 reached_as found = reach found.known.typ found.spots.now
-
--- whether an AsyncReset stands in the type of the elements that these lines give
-abbrev pub memory_holds : List MemLine → Bool
-memory_holds lines = holds_async (first_or (record { place = nowhere; shape = shape.Bundle [] }) (filter_map element_in lines))

@@ -1,9 +1,9 @@
 -- What the walk through the bodies keeps.
 use Rattle.std.specs.Prelude.{◌≡◌, ◌++◌, ◌+◌, ℕ, nat_eq, List, [], map}
 use Rattle.std.specs.Map.{lookup}
-use Rattle.reset_feeds.specs.declared.spot.Reach.{Reach}
-use Rattle.reset_feeds.specs.declared.spot.Feeds.{Feeds}
-use Rattle.reset_feeds.specs.Feeds.{Known, Gathered, Walk, Instances, WithPorts, instance_in, reach, in_turn, stmt_walk, known_ports, ports_asyncs}
+use Rattle.reset_search.specs.declared.spot.Reach.{Reach}
+use Rattle.reset_search.specs.declared.spot.Feeds.{Feeds}
+use Rattle.reset_search.specs.Feeds.{Known, Gathered, Walk, Instances, WithPorts, instance_in, reach, in_turn, stmt_walk, known_ports, ports_asyncs}
 use Rattle.reset_resolution.specs.declared.walk.Found.{Found}
 use Rattle.reset_resolution.specs.declared.walk.Source.{Source}
 use Rattle.reset_resolution.specs.declared.gathering.Ported.{Ported}

@@ -5,7 +5,7 @@ ghost use Rattle.std.specs.Prelude.{◌≡◌, IfOk};
 use bit_words::{List, Shared, SharedList};
 use fir_tree::Names;
 use fir_types::FirType;
-use reset_feeds::Spot;
+use reset_search::Spot;
 use std::alloc::{AllocError, Global};
 use std::marker::Model;
 use type_index::{Known, KnownType};
@@ -18,8 +18,8 @@ pub struct Indexed {
 }
 
 impl Model for Indexed {
-    ghost use Rattle.reset_feeds.specs.declared.spot.Reach.{Reach as Value_of};
-    ghost use Rattle.reset_feeds.specs.contracts.spot.Reach.{the_row};
+    ghost use Rattle.reset_search.specs.declared.spot.Reach.{Reach as Value_of};
+    ghost use Rattle.reset_search.specs.contracts.spot.Reach.{the_row};
 
     ghost Value = { Value_of };
 

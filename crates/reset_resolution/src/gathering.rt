@@ -1,7 +1,7 @@
 //! The feeds of a circuit.
 
 ghost use Rattle.std.specs.Prelude.{◌≡◌, ◌+◌, ◌++◌, ◌∷◌, [], map, flat_map, IfOk, OnOk};
-ghost use Rattle.reset_feeds.specs.Feeds.{feeds_in, ports_from, ports_count, modules_from, all_ports, instance_reach, known_ports, ports_asyncs, bodies_from};
+ghost use Rattle.reset_search.specs.Feeds.{feeds_in, ports_from, ports_count, modules_from, all_ports, instance_reach, known_ports, ports_asyncs, bodies_from};
 ghost use Rattle.reset_resolution.specs.Walked.{listed, AreInstances, ported, WalksBodies, WalksBody};
 
 use crate::component::Indexed;
@@ -13,7 +13,7 @@ use bit_words::List;
 use fir_tree::{Circuit, Module, Names};
 use fir_types::{Port, copy, instance_type};
 use indexmap::IndexMap;
-use reset_feeds::{Feeds, Spot};
+use reset_search::{Feeds, Spot};
 use std::alloc::{AllocError, Global};
 
 /// A module with the places of its ports.

@@ -1,11 +1,11 @@
 //! The ground places of a type, and whether two types are equivalent where Reset, AsyncReset and UInt are one type.
 
 ghost use Rattle.std.specs.Prelude.{◌≡◌, ◌++◌, ◌∷◌, [], map, flat_map, OnOk, IfOk};
-ghost use Rattle.reset_feeds.specs.Grounds.{grounds, are_alike, all_take};
+ghost use Rattle.reset_search.specs.Grounds.{grounds, are_alike, all_take};
 ghost use Rattle.reset_resolution.specs.Layers.{seen, field_grounds, field_alike, is_uint_like};
 
 use fir_types::{Field, FirType, Shape};
-use reset_feeds::{Ground, Word};
+use reset_search::{Ground, Word};
 use std::alloc::{AllocError, Global};
 
 /// The ground places of a type in order. Takes time and memory in proportion to the type.

@@ -9,8 +9,7 @@ pub mod memories;
 pub mod ranges;
 pub mod reaching;
 pub mod resolving;
-pub mod sources;
 pub mod steps;
 pub mod walk;
 
-pub use resolving::resolve_resets;
+pub use resolving::{resolve_resets, resolved_circuit};

@@ -1,12 +1,12 @@
 //! The places of memories.
 
 ghost use Rattle.std.specs.Prelude.{◌≡◌, ◌+◌, ◌++◌, OnOk};
-ghost use Rattle.reset_feeds.specs.Feeds.{own_count, port_spots, line_spots, line_count, lines_spots, lines_count};
+ghost use Rattle.reset_search.specs.Feeds.{own_count, port_spots, line_spots, line_count, lines_spots, lines_count};
 
 use crate::ranges::{push_declared, push_spots, spend};
 use bit_words::List;
 use fir_types::{MemLine, PortMode};
-use reset_feeds::Spot;
+use reset_search::Spot;
 use std::alloc::AllocError;
 
 /// The places that the ports of a memory share, which are those of an element, and how many places a mask has.

@@ -2,11 +2,11 @@
 
 ghost use Rattle.std.specs.Prelude.{◌≡◌, ◌+◌, ◌++◌, IfOk, OnOk};
 ghost use Rattle.fir_types.specs.Spots.{size};
-ghost use Rattle.reset_feeds.specs.Feeds.{declared_from, node_from, where_async, asyncs_among, between, pairs, fed_by};
+ghost use Rattle.reset_search.specs.Feeds.{declared_from, node_from, where_async, asyncs_among, between, pairs, fed_by};
 
 use bit_words::List;
 use fir_types::{FirType, size};
-use reset_feeds::{Feed, Ground, Spot, Word};
+use reset_search::{Feed, Ground, Spot, Word};
 use std::alloc::{AllocError, Global};
 
 /// What the places and the feeds of a circuit may take, in units of 8 bytes; more is a want of memory. A place of a component is one unit, and

@@ -3,13 +3,12 @@
 ghost use Rattle.std.specs.Prelude.{◌≡◌, ◌∷◌, [], map, nat_eq, option_map, Some, IfOk};
 ghost use Rattle.std.specs.Map.{lookup};
 ghost use Rattle.prim_ops.specs.Kinds.{row_kind};
-ghost use Rattle.reset_feeds.specs.declared.spot.Spot.TheVariants.{Cast as The_cast};
-ghost use Rattle.reset_feeds.specs.Feeds.{along, reached_by, signs_of, choice, reach, result as result_of};
+ghost use Rattle.reset_search.specs.declared.spot.Spot.TheVariants.{Cast as The_cast};
+ghost use Rattle.reset_search.specs.Feeds.{along, reached_by, signs_of, choice, reach, result as result_of};
 ghost use Rattle.reset_resolution.specs.Layers.{suffix_step, reached_as, sign_in};
 
 use crate::component::Indexed;
 use crate::grounds::are_alike;
-use crate::sources::is_cast;
 use crate::steps::walk_steps;
 use bit_words::{Kind, List};
 use fir_tree::kinds::ground;
@@ -18,7 +17,8 @@ use fir_types::{FirType, Shape};
 use indexmap::IndexMap;
 use place_text::Place;
 use prim_ops::{Prim, arity, kind_of};
-use reset_feeds::Spot;
+use reset_search::Spot;
+use reset_search::sources::is_cast;
 use std::alloc::{AllocError, Global};
 use type_index::KnownType;
 

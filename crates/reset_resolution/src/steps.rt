@@ -1,12 +1,12 @@
 //! The steps of references.
 
 ghost use Rattle.std.specs.Prelude.{◌≡◌, ◌≤◌, ◌-◌, ◌^◌, map, take, drop, length, Some, option_map};
-ghost use Rattle.reset_feeds.specs.Feeds.{along, field_step, element_step};
+ghost use Rattle.reset_search.specs.Feeds.{along, field_step, element_step};
 ghost use Rattle.reset_resolution.specs.Layers.{suffix_step, viewed};
 
 use crate::component::Indexed;
 use fir_tree::Suffix;
-use reset_feeds::Spot;
+use reset_search::Spot;
 use type_index::Known;
 
 /// A part of a component, where it stands.

@@ -1,8 +1,8 @@
 //! The walk through the statements of a body.
 
 ghost use Rattle.std.specs.Prelude.{◌≡◌, ◌++◌, ◌∷◌, [], map, option_map, Some, OnOk, IfOk};
-ghost use Rattle.reset_feeds.specs.declared.spot.Spot.TheVariants.{Cast as The_cast};
-ghost use Rattle.reset_feeds.specs.Feeds.{known_with, connected, in_turn, declares, declares_memory, declares_instance, names_node, connects, reached_by, stmt_walk, arm_walk};
+ghost use Rattle.reset_search.specs.declared.spot.Spot.TheVariants.{Cast as The_cast};
+ghost use Rattle.reset_search.specs.Feeds.{known_with, connected, in_turn, declares, declares_memory, declares_instance, names_node, connects, reached_by, stmt_walk, arm_walk};
 ghost use Rattle.reset_resolution.specs.Walked.{listed, Walks, found_as};
 ghost use Rattle.reset_resolution.specs.Layers.{reached_as};
 
@@ -18,8 +18,8 @@ use fir_tree::steps::no_part;
 use fir_tree::{Arm, Expr, Names, Stmt};
 use fir_types::{FirType, Memory, Name, copy, element_of};
 use indexmap::IndexMap;
-use reset_feeds::{Feed, Spot};
 use reset_search::masks::mask_places;
+use reset_search::{Feed, Spot};
 use std::alloc::{AllocError, Global};
 use type_index::KnownType;
 

@@ -1,7 +1,7 @@
 -- No two places have one number.
 use Rattle.std.proofs.Common.{arith, ◌≡◌, ℕ, ◌+◌, ◌*◌, refl, ap}
-use Rattle.reset_feeds.specs.declared.spot.Spot.{Spot}
-use Rattle.reset_feeds.specs.declared.spot.Spot.TheVariants.{Cast, Declared, OfNode}
+use Rattle.reset_search.specs.declared.spot.Spot.{Spot}
+use Rattle.reset_search.specs.declared.spot.Spot.TheVariants.{Cast, Declared, OfNode}
 use Rattle.reset_search.specs.Rows.{number}
 
 pub number_once : (p q : Spot) → number p ≡ number q → p ≡ q

@@ -7,7 +7,7 @@ use Rattle.fir_types.specs.declared.fir_type.Shape.{Shape}
 use Rattle.fir_types.specs.declared.fir_type.Shape.TheVariants as shape
 use Rattle.fir_types.specs.declared.fir_type.Field.{Field}
 use Rattle.fir_types.specs.Runs.{within}
-use Rattle.reset_feeds.specs.Resolved.{becomes}
+use Rattle.reset_search.specs.Resolved.{becomes}
 use Rattle.reset_search.specs.Layers.{shape_becomes, field_becomes}
 
 module _ (reached : ℕ → Bool) where

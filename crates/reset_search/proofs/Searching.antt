@@ -5,10 +5,10 @@ use Rattle.std.specs.List.{list_any}
 use Rattle.std.proofs.lemmas.Bool.{eqb-true, eqb-false}
 use Rattle.std.proofs.lemmas.List.Folds.{list_any_more, list_any-append}
 use Rattle.indexmap.specs.IndexSet.{insert_key}
-use Rattle.reset_feeds.specs.declared.spot.Spot.{Spot}
-use Rattle.reset_feeds.specs.declared.spot.Feed.{Feed}
-use Rattle.reset_feeds.specs.declared.spot.Feeds.{Feeds}
-use Rattle.reset_feeds.specs.Feeds.{feed, IsReached, begins, onward}
+use Rattle.reset_search.specs.declared.spot.Spot.{Spot}
+use Rattle.reset_search.specs.declared.spot.Feed.{Feed}
+use Rattle.reset_search.specs.declared.spot.Feeds.{Feeds}
+use Rattle.reset_search.specs.Feeds.{feed, IsReached, begins, onward}
 use Rattle.reset_search.specs.Rows.{number, holds, targets, AreRows, Way, starts_at, goes_on, Grows}
 use Rattle.reset_search.proofs.Numbering.{number_once}
 use Rattle.reset_search.proofs.Rowing.{eq_refl}

@@ -2,10 +2,10 @@
 use Rattle.std.specs.Prelude.{◌≡◌, ℕ, ◌+◌, ◌*◌, nat_eq, Bool, true, List, [], ◌∷◌, ◌++◌, Option, Some, None, Contains}
 use Rattle.std.specs.List.{list_any}
 use Rattle.std.specs.Map.{lookup}
-use Rattle.reset_feeds.specs.declared.spot.Spot.{Spot}
-use Rattle.reset_feeds.specs.declared.spot.Spot.TheVariants.{Cast, Declared, OfNode}
-use Rattle.reset_feeds.specs.declared.spot.Feed.{Feed}
-use Rattle.reset_feeds.specs.Feeds.{feed}
+use Rattle.reset_search.specs.declared.spot.Spot.{Spot}
+use Rattle.reset_search.specs.declared.spot.Spot.TheVariants.{Cast, Declared, OfNode}
+use Rattle.reset_search.specs.declared.spot.Feed.{Feed}
+use Rattle.reset_search.specs.Feeds.{feed}
 
 -- no two places have one number
 abbrev pub number : Spot → ℕ

@@ -3,7 +3,7 @@
 ghost use Rattle.std.specs.Prelude.{◌≡◌, IfOk};
 
 use bit_words::List;
-use fir_tree::{Expr, Form, Names, Piece, PrintItem, Suffix};
+use fir_tree::{Expr, Form, Piece, PrintItem, Suffix};
 use std::alloc::{AllocError, Global};
 
 /// An expression once more. Takes time and memory in proportion to it.
@@ -70,23 +70,6 @@ fn copy_suffix(alloc: Global, suffix: &Suffix) -> Result<Suffix, AllocError>
         Suffix::At(bracket, place, number) => Ok(Suffix::At(*bracket, *place, *number)),
         Suffix::Index(bracket, index) => Ok(Suffix::Index(*bracket, copy_expr(alloc, index)?)),
     }
-}
-
-/// The texts of names once more. No text has two numbers there, so each gets the number that it has.
-pub fn copy_names(alloc: Global, names: &Names) -> Result<Names, AllocError>
-    ensures { IfOk result (λ copied. copied ≡ names.now) }
-{
-    let mut copied = Names::new(alloc);
-    for id in 0..u32::MAX {
-        let Some(text) = names.get(id) else {
-            return Ok(copied);
-        };
-        let given = copied.add(text)?;
-        if given != id {
-            return Err(AllocError);
-        }
-    }
-    Err(AllocError)
 }
 
 /// The items of a circuit once more.

@@ -3,9 +3,9 @@
 ghost use Rattle.std.specs.Prelude.{◌≡◌, ◌++◌, ◌∷◌, [], ℕ, nat_eq, if◌then◌else◌, OnOk, IfOk};
 ghost use Rattle.reset_search.specs.Rows.{number, targets, listed_in, AreRows};
 
+use crate::spot::{Feed, Spot};
 use bit_words::List;
 use indexmap::IndexMap;
-use reset_feeds::{Feed, Spot};
 use std::alloc::{AllocError, Global};
 
 /// For the numbers of places those of the places that they feed.

@@ -1,13 +1,13 @@
 //! The search for the places that a chain of feeds leads to from an AsyncReset leaf.
 
 ghost use Rattle.std.specs.Prelude.{◌≡◌, ◌↔◌, ◌||◌, ◌<◌, ◌^◌, ℕ, map, nat_eq, true, false, slice_get, option_copied, IsSome, IfOk, OnOk};
-ghost use Rattle.reset_feeds.specs.declared.spot.Spot.{Spot as ASpot};
-ghost use Rattle.reset_feeds.specs.Feeds.{IsReached};
+ghost use Rattle.reset_search.specs.declared.spot.Spot.{Spot as ASpot};
+ghost use Rattle.reset_search.specs.Feeds.{IsReached};
 ghost use Rattle.reset_search.specs.Rows.{number, holds, marked, Way, Grows};
 
 use crate::rows::{Rows, number, rows_of};
+use crate::spot::{Feeds, Spot};
 use indexmap::IndexSet;
-use reset_feeds::{Feeds, Spot};
 use std::alloc::{AllocError, Global};
 
 /// The numbers of places, each once, in the order in which they were added.

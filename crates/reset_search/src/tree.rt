@@ -2,12 +2,12 @@
 
 ghost use Rattle.std.specs.Prelude.{◌≡◌, ◌+◌, map, IfOk, OnOk};
 ghost use Rattle.fir_types.specs.Spots.{size};
-ghost use Rattle.reset_feeds.specs.Feeds.{memory_count, lines_count, line_count, own_count, ports_count, all_ports};
-ghost use Rattle.reset_feeds.specs.Resolved.{resolved, resolved_circuit, resolved_modules, resolved_ports, resolved_memory, with_element, becomes_stmt, all_from, in_all};
+ghost use Rattle.reset_search.specs.Feeds.{memory_count, lines_count, line_count, own_count, ports_count, all_ports};
+ghost use Rattle.reset_search.specs.Resolved.{resolved, resolved_circuit, resolved_modules, resolved_ports, resolved_memory, with_element, becomes_stmt, all_from, in_all};
 ghost use Rattle.reset_search.specs.Rows.{marked};
 ghost use Rattle.reset_search.specs.Layers.{arm_becomes, module_from};
 
-use crate::copies::{copy_expr, copy_names, copy_prints};
+use crate::copies::{copy_expr, copy_prints};
 use crate::masks::mask_places;
 use crate::search::Marks;
 use crate::types::{resolved_type, skip};
@@ -24,7 +24,7 @@ pub fn resolved_tree(alloc: Global, marks: &Marks, circuit: &Circuit) -> Result<
     let mut next = 0;
     skip_ports(&mut next, circuit.modules.as_slice())?;
     Ok(Circuit {
-        names: copy_names(alloc, &circuit.names)?,
+        names: circuit.names.copy()?,
         main: circuit.main,
         modules: resolve_modules(alloc, marks, next, circuit.modules.as_slice())?,
         prints: copy_prints(alloc, circuit.prints.as_slice())?,

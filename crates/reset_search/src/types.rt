@@ -2,7 +2,7 @@
 
 ghost use Rattle.std.specs.Prelude.{◌≡◌, ◌+◌, map, IfOk, OnOk};
 ghost use Rattle.fir_types.specs.Runs.{within};
-ghost use Rattle.reset_feeds.specs.Resolved.{becomes, resolved, all_from, in_all};
+ghost use Rattle.reset_search.specs.Resolved.{becomes, resolved, all_from, in_all};
 ghost use Rattle.reset_search.specs.Rows.{marked};
 ghost use Rattle.reset_search.specs.Layers.{shape_becomes, field_becomes};
 

@@ -18,7 +18,7 @@ use Rattle.fir_tree.specs.declared.stmt.Arm.{Arm, fold-Arm}
 use Rattle.fir_tree.specs.declared.stmt.Stmt.TheOpen.{Stmt-F, Arm-F}
 use Rattle.fir_tree.specs.declared.stmt.Stmt.TheFolds.{map-Stmt, map-Arm, fold-roll-Stmt, fold-roll-Arm}
 use Rattle.fir_tree.specs.declared.stmt.Stmt.TheViews.{roll-Stmt, roll-Arm}
-use Rattle.cycle_values.specs.Values.{fitted}
+use Rattle.prim_ops.specs.Values.{fitted}
 use Rattle.fir_meaning.specs.Components.{Leaf, kind_of_leaf, width_of_leaf, kind_of_shape, width_of_shape}
 use Rattle.fir_meaning.specs.Values.{Scene, Spot, value, spot_of, beside, lone, fitted_to}
 use Rattle.fir_meaning.specs.Drives as drives

@@ -14,8 +14,8 @@ use Rattle.fir_types.specs.declared.fir_type.Shape.TheViews.{out-Shape}
 use Rattle.fir_types.specs.declared.leaf.TypeLeaf.{TypeLeaf}
 use Rattle.fir_types.specs.declared.leaf.PathStep.{PathStep}
 use Rattle.fir_types.specs.declared.leaf.PathStep.TheVariants as step
-use Rattle.cycle_values.specs.Shapes.{Shape, shape_of_value}
-use Rattle.cycle_values.proofs.Fittings.{value_in_range}
+use Rattle.prim_ops.specs.Shapes.{Shape, shape_of_value}
+use Rattle.prim_ops.proofs.Fittings.{value_in_range}
 use Rattle.fir_meaning.specs.Components.{is_clock, is_clock_shape, width_of_leaf, width_of_shape}
 use Rattle.fir_meaning.specs.Drives.{same_step, same_way}
 use Rattle.fir_meaning.specs.States.{or_else}

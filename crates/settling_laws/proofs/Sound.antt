@@ -5,7 +5,7 @@ use Rattle.fir_types.specs.declared.leaf.PathStep.TheVariants as step
 use Rattle.fir_types.specs.declared.memory.Memory.{Memory}
 use Rattle.fir_types.specs.Leaves.{leaves}
 use Rattle.fir_tree.specs.declared.expr.Expr.{Expr}
-use Rattle.cycle_values.specs.Shapes.{shape_of_value}
+use Rattle.prim_ops.specs.Shapes.{shape_of_value}
 use Rattle.fir_meaning.specs.Components.{Design, TypedModule, Component, FlatLeaf, Leaf, Sort, An_input, An_output, A_wire, A_register, A_reset_register, A_memory, An_instance, A_node, flow_of, is_clock, flat, flat_through, component_named, module_at, target_in, HasBundles}
 use Rattle.fir_meaning.specs.Values.{Valuation, scene_of, value}
 use Rattle.fir_meaning.specs.Drives.{drives}

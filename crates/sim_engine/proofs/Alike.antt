@@ -2,7 +2,7 @@
 use Rattle.std.proofs.Common.{◌≡◌, ℕ, List, Option, sym, ap, ◌∙◌, subst, slice_get, Some, true}
 use Rattle.std.specs.Prelude.{Bool}
 use Rattle.place_text.specs.declared.place.Place.{Place}
-use Rattle.fault_order.specs.First.{IsFirst, HasNone}
+use Rattle.place_text.specs.First.{IsFirst, HasNone}
 use Rattle.fir_types.specs.declared.fir_type.FirType.{FirType}
 use Rattle.fir_tree.specs.declared.circuit.Circuit.{Circuit}
 use Rattle.fir_tree.specs.declared.circuit.Module.{Module}

@@ -3,7 +3,7 @@ use Rattle.std.proofs.Common.{◌≡◌, ℕ, List, ◌⊎◌, ⊎_elim, inl, in
 use Rattle.std.specs.Prelude.{Option, Some, None, Result, Ok, Err, IfOk, IfErr, MatchResult}
 use Rattle.place_text.specs.declared.place.Place.{Place}
 use Rattle.place_text.specs.Places.{place}
-use Rattle.fault_order.specs.First.{HasNone}
+use Rattle.place_text.specs.First.{HasNone}
 use Rattle.fir_lexer.specs.declared.token.Token.{Token}
 use Rattle.fir_lexer.specs.declared.fault.LexFault.{LexFault}
 use Rattle.fir_lexer.specs.declared.fault.LexFault.TheVariants as lex
@@ -28,6 +28,9 @@ use Rattle.fir_tree.specs.declared.fault.ParseFault.TheVariants as parse
 use Rattle.fir_names.specs.Faults.{IsFault as IsNameFault, IsFirst as IsFirstOfNames, place_of as place_of_names}
 use Rattle.fir_names.specs.Scopes.{IsScope}
 use Rattle.fir_names.specs.declared.fault.NameFault.{NameFault}
+use Rattle.reset_search.specs.Resolved.{IsResolved}
+use Rattle.reset_names.proofs.Marking.{same_names}
+use Rattle.reset_names.proofs.Crossing.{scope_there}
 use Rattle.type_check.specs.Faults.{IsFault as IsTypeFault, IsFirst as IsFirstOfTypes, place_of as place_of_types}
 use Rattle.type_check.specs.Statements.{types_of}
 use Rattle.type_check.specs.declared.fault.TypeFault.{TypeFault}
@@ -100,41 +103,43 @@ given_names text circuit given p found = by_place text (fault.Name given) (place
 pub named_by : (text : List ℕ) (circuit : Circuit) → IsParsed text circuit → HasNone (IsNameFault circuit) → IsNamed text circuit
 named_by text circuit parsed none = record { parsed = parsed; none = none }
 
-pub given_types : (text : List ℕ) (circuit : Circuit) (given : TypeFault) → IsNamed text circuit → (place_of_types given ≡ None) ⊎ IsFirstOfTypes circuit given
+pub given_types : (text : List ℕ) (circuit tree : Circuit) (given : TypeFault) → IsNamed text circuit → IsResolved circuit tree → (place_of_types given ≡ None) ⊎ IsFirstOfTypes tree given
     → IsGiven text (unless_wanting (place_of_types given) (fault.Typing given))
-given_types text circuit given n found = by_place text (fault.Typing given) (place_of_types given) refl (⊎_elim (λ m. inl m) (λ f. inr (of_types circuit given n f)) found)
+given_types text circuit tree given n r found =
+    by_place text (fault.Typing given) (place_of_types given) refl (⊎_elim (λ m. inl m) (λ f. inr (of_types circuit tree given n r f)) found)
 
-pub typed_by : (text : List ℕ) (circuit : Circuit) → IsNamed text circuit → HasNone (IsTypeFault circuit) → IsTyped text circuit
-typed_by text circuit named none = record { named = named; none = none }
+pub typed_by : (text : List ℕ) (circuit tree : Circuit) → IsNamed text circuit → IsResolved circuit tree → HasNone (IsTypeFault tree) → IsTyped text circuit tree
+typed_by text circuit tree named resolved none = record { named = named; resolved = resolved; none = none }
 
-pub given_size : (text : List ℕ) (circuit : Circuit) (given : SizeFault) → IsTyped text circuit → (place_of_size given ≡ None) ⊎ IsFirstOfSize circuit given
+pub given_size : (text : List ℕ) (circuit tree : Circuit) (given : SizeFault) → IsTyped text circuit tree → (place_of_size given ≡ None) ⊎ IsFirstOfSize tree given
     → IsGiven text (unless_wanting (place_of_size given) (fault.Size given))
-given_size text circuit given t found = by_place text (fault.Size given) (place_of_size given) refl (⊎_elim (λ m. inl m) (λ f. inr (of_size circuit given t f)) found)
+given_size text circuit tree given t found = by_place text (fault.Size given) (place_of_size given) refl (⊎_elim (λ m. inl m) (λ f. inr (of_size circuit tree given t f)) found)
 
-pub sized_by : (text : List ℕ) (circuit : Circuit) → IsTyped text circuit → HasNone (IsSizeFault circuit) → IsSized text circuit
-sized_by text circuit typed none = record { typed = typed; none = none }
+-- a circuit that passes the size, with its scope and its types
+pub record IsMeasured (text : List ℕ) (checked : Checked) : Type 0 where
+  pub sized : IsSized text checked.circuit checked.resolved
+  pub scope : IsScope checked.resolved checked.scope
+  pub types : checked.types ≡ types_of checked.resolved
 
--- what is said of the circuit is said of the one that the later stages read
-pub scope_kept : (checked : Checked) (circuit : Circuit) (scope : Scope) → checked.resolved ≡ circuit → checked.scope ≡ scope → IsScope circuit scope
-    → IsScope checked.resolved checked.scope
-scope_kept checked circuit scope e f h = subst (λ (x : Circuit). IsScope x checked.scope) (sym e) (subst (IsScope circuit) (sym f) h)
+-- what the names of the circuit mean they mean in its tree
+pub measured_by : (text : List ℕ) (spelled circuit tree : Circuit) (scope : Scope) (types : List FirType) → circuit ≡ spelled → IsTyped text circuit tree → HasNone (IsSizeFault tree) → IsScope spelled scope
+    → types ≡ types_of tree → IsMeasured text (record { circuit = circuit; resolved = tree; scope = scope; types = types })
+measured_by text spelled circuit tree scope types same typed none means is = record {
+  sized = record { typed = typed; none = none };
+  scope = scope_there circuit tree (same_names circuit tree typed.resolved) scope (subst (λ (x : Circuit). IsScope x scope) (sym same) means);
+  types = is;
+}
 
-pub types_kept : (checked : Checked) (circuit : Circuit) (types : List FirType) → checked.resolved ≡ circuit → checked.types ≡ types → types ≡ types_of circuit
-    → checked.types ≡ types_of checked.resolved
-types_kept checked circuit types e f h = f ∙ h ∙ ap types_of (sym e)
+pub given_widths : (text : List ℕ) (checked : Checked) (given : WidthFault) → IsMeasured text checked → (place_of_widths given ≡ None) ⊎ IsUnfit checked given
+    → IsGiven text (unless_wanting (place_of_widths given) (fault.Width given))
+given_widths text checked given m found = by_place text (fault.Width given) (place_of_widths given) refl (⊎_elim (λ e. inl e)
+    (λ (u : IsUnfit checked given). inr (of_widths checked.circuit checked.resolved checked u.widths given m.sized (solved_by checked u.widths m.scope m.types u.least) u.first)) found)
 
-pub given_widths : (text : List ℕ) (checked : Checked) (given : WidthFault) → IsSized text checked.resolved → IsScope checked.resolved checked.scope → checked.types ≡ types_of checked.resolved
-    → (place_of_widths given ≡ None) ⊎ IsUnfit checked given → IsGiven text (unless_wanting (place_of_widths given) (fault.Width given))
-given_widths text checked given s scope types found = by_place text (fault.Width given) (place_of_widths given) refl (⊎_elim (λ m. inl m)
-    (λ (u : IsUnfit checked given). inr (of_widths checked.resolved checked u.widths given s (solved_by checked u.widths scope types u.least) u.first)) found)
-
-pub fitted_by : (text : List ℕ) (checked : Checked) (fitted : Fitted) → checked.circuit ≡ checked.resolved → IsSized text checked.resolved → IsScope checked.resolved checked.scope → checked.types ≡ types_of checked.resolved
-    → IsFit checked fitted → IsFitted text fitted
-fitted_by text checked fitted same s scope types fit = record {
-  same = subst (λ (x : Checked). x.circuit ≡ x.resolved) (sym fit.fitted_is.checked_is) same;
-  widthed = subst (λ (x : Checked). IsWidthed text x.resolved) (sym fit.fitted_is.checked_is)
-      (record { sized = s; checked = checked; widths = fit.widths; solved = solved_by checked fit.widths scope types fit.least; none = fit.none });
-  types = fitted_circuit checked fitted scope types fit;
+pub fitted_by : (text : List ℕ) (checked : Checked) (fitted : Fitted) → IsMeasured text checked → IsFit checked fitted → IsFitted text fitted
+fitted_by text checked fitted m fit = record {
+  widthed = subst (λ (x : Checked). IsWidthed text x.circuit x.resolved) (sym fit.fitted_is.checked_is)
+      (record { sized = m.sized; checked = checked; widths = fit.widths; solved = solved_by checked fit.widths m.scope m.types fit.least; none = fit.none });
+  types = fitted_circuit checked fitted m.scope m.types fit;
 }
 
 pub given_drives : (text : List ℕ) (fitted : Fitted) (given : DriveFault) → IsFitted text fitted → (place_of_drives given ≡ None) ⊎ IsFirstOfDrives fitted given

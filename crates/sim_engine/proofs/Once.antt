@@ -3,7 +3,7 @@
 use Rattle.std.proofs.Common.{◌≡◌, ◌⊎◌, inl, inr, ℕ, List, refl, sym, ap, ◌∙◌, subst}
 use Rattle.std.specs.Prelude.{⊤}
 use Rattle.place_text.specs.Places.{place}
-use Rattle.fault_order.proofs.Ordering.{one_first}
+use Rattle.place_text.proofs.Ordering.{one_first}
 use Rattle.fir_lexer.specs.declared.token.Token.{Token}
 use Rattle.fir_lexer.specs.declared.fault.LexFault.{LexFault}
 use Rattle.fir_lexer.specs.Tokens.{IsFault as IsTokenFault}
@@ -24,6 +24,8 @@ use Rattle.fir_tree.specs.declared.fault.ParseFault.{ParseFault}
 use Rattle.fir_names.specs.Faults.{IsFault as IsNameFault, IsFirst as IsFirstOfNames, place_of as place_of_names, rank_of as rank_of_names}
 use Rattle.fir_names.specs.Ranks.{one_each as one_name_each}
 use Rattle.fir_names.specs.declared.fault.NameFault.{NameFault}
+use Rattle.reset_search.specs.Resolved.{IsResolved}
+use Rattle.reset_search.proofs.Once.{resolved_once}
 use Rattle.type_check.specs.Faults.{IsFault as IsTypeFault, IsFirst as IsFirstOfTypes, place_of as place_of_types, rank_of as rank_of_types}
 use Rattle.type_check.specs.Ranks.{one_each as one_type_each}
 use Rattle.type_check.specs.declared.fault.TypeFault.{TypeFault}
@@ -64,13 +66,17 @@ pub parsed_once : (text : List ℕ) (first second : Circuit) → IsParsed text f
 parsed_once text first second f s =
     one_circuit text s.list first second (subst (λ x. IsCircuit text x first) (laid_once text f.list s.list f.laid s.laid) f.spelled) s.spelled
 
--- the parsed circuit of a fitted one
-parsed_in : (text : List ℕ) (fitted : Fitted) → IsFitted text fitted → IsParsed text fitted.checked.resolved
-parsed_in text fitted fits = fits.widthed.sized.typed.named.parsed
+tree_once : (text : List ℕ) (circuit other tree second : Circuit) → IsNamed text circuit → IsNamed text other → IsResolved circuit tree → IsResolved other second → tree ≡ second
+tree_once text circuit other tree second n m r s =
+    resolved_once other tree second (subst (λ x. IsResolved x tree) (parsed_once text circuit other n.parsed m.parsed) r) s
+
+-- the tree of a text that passes the types
+typed_once : (text : List ℕ) (circuit other tree second : Circuit) → IsTyped text circuit tree → IsTyped text other second → tree ≡ second
+typed_once text circuit other tree second f s = tree_once text circuit other tree second f.named s.named f.resolved s.resolved
 
 fitted_once : (text : List ℕ) (first second : Fitted) → IsFitted text first → IsFitted text second → AreAlike first second
 fitted_once text first second f s =
-    let same = parsed_once text first.checked.resolved second.checked.resolved (parsed_in text first f) (parsed_in text second s) in
+    let same = typed_once text first.checked.circuit second.checked.circuit first.checked.resolved second.checked.resolved f.widthed.sized.typed s.widthed.sized.typed in
     let moved = subst (λ x. IsFittedCircuit x first) same f.types in record {
       circuit = same;
       declared = same_declared second.checked.resolved first second moved s.types;
@@ -129,45 +135,46 @@ names_stage text = record {
 }
 
 abbrev OfTypes : List ℕ → TypeFault → Type 0
-OfTypes text given = (circuit : Circuit) × IsNamed text circuit × IsFirstOfTypes circuit given
+OfTypes text given = (circuit : Circuit) × (tree : Circuit) × IsNamed text circuit × IsResolved circuit tree × IsFirstOfTypes tree given
 
-types_stage : (text : List ℕ) → IsStage (OfTypes text) ((circuit : Circuit) × IsNamed text circuit) ((circuit : Circuit) × IsTyped text circuit)
+types_stage : (text : List ℕ) → IsStage (OfTypes text) ((circuit : Circuit) × IsNamed text circuit) ((circuit : Circuit) × (tree : Circuit) × IsTyped text circuit tree)
 types_stage text = record {
   once = λ first second p q. one_first place_of_types rank_of_types one_type_each first second
-      (subst (λ x. IsFirstOfTypes x first) (parsed_once text p.0 q.0 p.1.parsed q.1.parsed) p.2) q.2;
-  came = λ given p. (p.0, p.1);
-  stops = λ given p a. a.1.none given (subst (λ x. IsTypeFault x given) (parsed_once text p.0 a.0 p.1.parsed a.1.named.parsed) p.2.is);
-  down = λ a. (a.0, a.1.named);
+      (subst (λ x. IsFirstOfTypes x first) (tree_once text p.0 q.0 p.1 q.1 p.2 q.2 p.3 q.3) p.4) q.4;
+  came = λ given p. (p.0, p.2);
+  stops = λ given p a. a.2.none given (subst (λ x. IsTypeFault x given) (tree_once text p.0 a.0 p.1 a.1 p.2 a.2.named p.3 a.2.resolved) p.4.is);
+  down = λ a. (a.0, a.2.named);
 }
 
 abbrev OfSize : List ℕ → SizeFault → Type 0
-OfSize text given = (circuit : Circuit) × IsTyped text circuit × IsFirstOfSize circuit given
+OfSize text given = (circuit : Circuit) × (tree : Circuit) × IsTyped text circuit tree × IsFirstOfSize tree given
 
-size_stage : (text : List ℕ) → IsStage (OfSize text) ((circuit : Circuit) × IsTyped text circuit) ((circuit : Circuit) × IsSized text circuit)
+size_stage : (text : List ℕ) → IsStage (OfSize text) ((circuit : Circuit) × (tree : Circuit) × IsTyped text circuit tree) ((circuit : Circuit) × (tree : Circuit) × IsSized text circuit tree)
 size_stage text = record {
   once = λ first second p q. one_first place_of_size rank_of_size one_size_each first second
-      (subst (λ x. IsFirstOfSize x first) (parsed_once text p.0 q.0 p.1.named.parsed q.1.named.parsed) p.2) q.2;
-  came = λ given p. (p.0, p.1);
-  stops = λ given p a. a.1.none given (subst (λ x. IsSizeFault x given) (parsed_once text p.0 a.0 p.1.named.parsed a.1.typed.named.parsed) p.2.is);
-  down = λ a. (a.0, a.1.typed);
+      (subst (λ x. IsFirstOfSize x first) (typed_once text p.0 q.0 p.1 q.1 p.2 q.2) p.3) q.3;
+  came = λ given p. (p.0, p.1, p.2);
+  stops = λ given p a. a.2.none given (subst (λ x. IsSizeFault x given) (typed_once text p.0 a.0 p.1 a.1 p.2 a.2.typed) p.3.is);
+  down = λ a. (a.0, a.1, a.2.typed);
 }
 
 abbrev OfWidths : List ℕ → WidthFault → Type 0
-OfWidths text given = (circuit : Circuit) × (checked : Checked) × (widths : List Width) × IsSized text circuit × IsSolved circuit checked widths × IsFirstOfWidths checked widths given
+OfWidths text given =
+    (circuit : Circuit) × (tree : Circuit) × (checked : Checked) × (widths : List Width) × IsSized text circuit tree × IsSolved tree checked widths × IsFirstOfWidths checked widths given
 
-widths_stage : (text : List ℕ) → IsStage (OfWidths text) ((circuit : Circuit) × IsSized text circuit) ((fitted : Fitted) × IsFitted text fitted)
+widths_stage : (text : List ℕ) → IsStage (OfWidths text) ((circuit : Circuit) × (tree : Circuit) × IsSized text circuit tree) ((fitted : Fitted) × IsFitted text fitted)
 widths_stage text = record {
   once = λ first second p q.
-      let same = parsed_once text p.0 q.0 p.3.typed.named.parsed q.3.typed.named.parsed in
-      let solved = subst (λ x. IsSolved x p.1 p.2) same p.4 in
-      one_first place_of_widths rank_of_widths one_width_each first second (same_first q.0 p.1 q.1 p.2 q.2 first solved q.4 p.5) q.5;
-  came = λ given p. (p.0, p.3);
+      let same = typed_once text p.0 q.0 p.1 q.1 p.4.typed q.4.typed in
+      let solved = subst (λ x. IsSolved x p.2 p.3) same p.5 in
+      one_first place_of_widths rank_of_widths one_width_each first second (same_first q.1 p.2 q.2 p.3 q.3 first solved q.5 p.6) q.6;
+  came = λ given p. (p.0, p.1, p.4);
   stops = λ given p a.
       let widthed = a.1.widthed in
-      let same = parsed_once text p.0 a.0.checked.resolved p.3.typed.named.parsed (parsed_in text a.0 a.1) in
-      let solved = subst (λ x. IsSolved x p.1 p.2) same p.4 in
-      widthed.none given (same_fault a.0.checked.resolved p.1 widthed.checked p.2 widthed.widths given solved widthed.solved p.5.is);
-  down = λ a. (a.0.checked.resolved, a.1.widthed.sized);
+      let same = typed_once text p.0 a.0.checked.circuit p.1 a.0.checked.resolved p.4.typed widthed.sized.typed in
+      let solved = subst (λ x. IsSolved x p.2 p.3) same p.5 in
+      widthed.none given (same_fault a.0.checked.resolved p.2 widthed.checked p.3 widthed.widths given solved widthed.solved p.6.is);
+  down = λ a. (a.0.checked.circuit, a.0.checked.resolved, a.1.widthed.sized);
 }
 
 abbrev OfDrives : List ℕ → DriveFault → Type 0
@@ -222,7 +229,7 @@ UpToOrder text f =
 up_to_grammar : (text : List ℕ) → Settles (UpToGrammar text) ((circuit : Circuit) × IsParsed text circuit)
 up_to_grammar text = and_then (and_then (and_then begin fault.Lex (tokens_stage text)) fault.Layout (layout_stage text)) fault.Parse (grammar_stage text)
 
-up_to_size : (text : List ℕ) → Settles (UpToSize text) ((circuit : Circuit) × IsSized text circuit)
+up_to_size : (text : List ℕ) → Settles (UpToSize text) ((circuit : Circuit) × (tree : Circuit) × IsSized text circuit tree)
 up_to_size text = and_then (and_then (and_then (up_to_grammar text) fault.Name (names_stage text)) fault.Typing (types_stage text)) fault.Size (size_stage text)
 
 settled : (text : List ℕ) → Settles (UpToOrder text) ((fitted : Fitted) × IsAccepted text fitted)
@@ -241,9 +248,9 @@ told text f (of_tokens at given h) = parsed text f (inl (inl (inr (given, (at, h
 told text f (of_layout tokens at l b) = parsed text f (inl (inr (BadIndent (place text at), (tokens, at, l, b, refl), refl)))
 told text f (of_grammar laid given l h) = parsed text f (inr (given, (laid, l, h), refl))
 told text f (of_names circuit given p h) = sized text f (inl (inl (inr (given, (circuit, p, h), refl))))
-told text f (of_types circuit given n h) = sized text f (inl (inr (given, (circuit, n, h), refl)))
-told text f (of_size circuit given t h) = sized text f (inr (given, (circuit, t, h), refl))
-told text f (of_widths circuit checked widths given s solved h) = inl (inl (inl (inr (given, (circuit, checked, widths, s, solved, h), refl))))
+told text f (of_types circuit tree given n r h) = sized text f (inl (inr (given, (circuit, tree, n, r, h), refl)))
+told text f (of_size circuit tree given t h) = sized text f (inr (given, (circuit, tree, t, h), refl))
+told text f (of_widths circuit tree checked widths given s solved h) = inl (inl (inl (inr (given, (circuit, tree, checked, widths, s, solved, h), refl))))
 told text f (of_drives fitted given fits h) = inl (inl (inr (given, (fitted, fits, h), refl)))
 told text f (of_clocks fitted given driven h) = inl (inr (given, (fitted, driven, h), refl))
 told text f (of_order fitted given clocked h) = inr (given, (fitted, clocked, h), refl)

@@ -15,7 +15,7 @@ use Rattle.width_rules.specs.declared.rule.Rules.{Rules}
 use Rattle.width_rules.proofs.Least.{least_once}
 use Rattle.width_fit.specs.Judging.{Told, told_of}
 use Rattle.width_fit.specs.Fitting.{IsFitted, AreLeast, IsSolved, IsFit, IsFittedCircuit}
-use Rattle.fault_order.specs.Verdicts.{IsVerdict}
+use Rattle.place_text.specs.Verdicts.{IsVerdict}
 use Rattle.width_fit.specs.Faults.{IsFault, IsFirst, place_of, rank_of}
 use Rattle.width_fit.specs.declared.fault.WidthFault.{WidthFault}
 use Rattle.sim_engine.specs.Unfit.{IsUnfit}

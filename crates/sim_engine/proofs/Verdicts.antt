@@ -1,7 +1,7 @@
 -- The verdict over a net that serves a circuit, of which the net is what is made.
 use Rattle.std.proofs.Common.{sym, subst}
 use Rattle.std.specs.Prelude.{Result, Ok, Err}
-use Rattle.fault_order.specs.Verdicts.{IsVerdict}
+use Rattle.place_text.specs.Verdicts.{IsVerdict}
 use Rattle.fir_tree.specs.LeafNames.{Texts}
 use Rattle.fir_meaning.specs.Components.{Design}
 use Rattle.ground_net.specs.declared.net.Net.{Net}

@@ -3,7 +3,7 @@ use Rattle.ground_net.specs.declared.circuit.GroundCircuit.{GroundCircuit}
 use Rattle.ground_net.specs.declared.circuit.DrivenCircuit.{DrivenCircuit}
 use Rattle.ground_net.specs.declared.circuit.FlatCircuit.{FlatCircuit}
 use Rattle.ground_net.specs.declared.net.Net.{Net}
-use Rattle.net_meaning.specs.Nets.{IsNet}
+use Rattle.ground_net.specs.Nets.{IsNet}
 use Rattle.expand_whens.specs.Expanding.{IsExpanded}
 use Rattle.flatten_instances.specs.Flat.{IsFlat}
 use Rattle.flatten_instances.specs.Instances.{HasInstances}

@@ -2,11 +2,12 @@
 -- Definition"), its names ("Namespaces"), its types ("Types", "Expressions", "Connects"), its size, its widths ("Width Inference"),
 -- its driven leaves ("Initialization" under "Conditionals"), its clocks ("Clock" under "Ground Types") and its loops
 -- ("Combinational Loops"). Each stage has a record that says what the text is where it passes the stage, and that holds the record
--- of the stage before it. So a stage judges only what all stages before it let pass.
+-- of the stage before it. So a stage judges only what all stages before it let pass. From the types on a stage judges the tree in which
+-- each `Reset` of the circuit is resolved ("Reset Type").
 use Rattle.std.specs.Prelude.{◌≡◌, ◌⊎◌, ℕ, List, Some}
 use Rattle.place_text.specs.declared.place.Place.{Place}
 use Rattle.place_text.specs.Places.{place}
-use Rattle.fault_order.specs.First.{IsFirst, HasNone}
+use Rattle.place_text.specs.First.{IsFirst, HasNone}
 use Rattle.fir_lexer.specs.declared.token.Token.{Token}
 use Rattle.fir_lexer.specs.declared.fault.LexFault.{LexFault}
 use Rattle.fir_lexer.specs.Tokens.{AreTokens, IsFault as IsTokenFault}
@@ -22,6 +23,7 @@ use Rattle.fir_tree.specs.declared.scope.Fitted.{Fitted}
 use Rattle.fir_tree.specs.declared.fault.ParseFault.{ParseFault}
 use Rattle.fir_names.specs.Faults.{IsFault as IsNameFault, IsFirst as IsFirstOfNames}
 use Rattle.fir_names.specs.declared.fault.NameFault.{NameFault}
+use Rattle.reset_search.specs.Resolved.{IsResolved}
 use Rattle.type_check.specs.Faults.{IsFault as IsTypeFault, IsFirst as IsFirstOfTypes}
 use Rattle.type_check.specs.declared.fault.TypeFault.{TypeFault}
 use Rattle.size_check.specs.Faults.{place_of as place_of_size, rank_of as rank_of_size}
@@ -73,28 +75,28 @@ pub record IsNamed (text : List ℕ) (circuit : Circuit) : Type 0 where
   pub parsed : IsParsed text circuit
   pub none : HasNone (IsNameFault circuit)
 
--- its types have none
-pub record IsTyped (text : List ℕ) (circuit : Circuit) : Type 0 where
+-- the tree is the circuit with its `Reset`s resolved, and its types have none
+pub record IsTyped (text : List ℕ) (circuit tree : Circuit) : Type 0 where
   pub named : IsNamed text circuit
-  pub none : HasNone (IsTypeFault circuit)
+  pub resolved : IsResolved circuit tree
+  pub none : HasNone (IsTypeFault tree)
 
 -- its size passes no limit
-pub record IsSized (text : List ℕ) (circuit : Circuit) : Type 0 where
-  pub typed : IsTyped text circuit
-  pub none : HasNone (IsSizeFault circuit)
+pub record IsSized (text : List ℕ) (circuit tree : Circuit) : Type 0 where
+  pub typed : IsTyped text circuit tree
+  pub none : HasNone (IsSizeFault tree)
 
 -- it has least widths, and they have no fault
-pub record IsWidthed (text : List ℕ) (circuit : Circuit) : Type 0 where
-  pub sized : IsSized text circuit
+pub record IsWidthed (text : List ℕ) (circuit tree : Circuit) : Type 0 where
+  pub sized : IsSized text circuit tree
   pub checked : Checked
   pub widths : List Width
-  pub solved : IsSolved circuit checked widths
+  pub solved : IsSolved tree checked widths
   pub none : HasNone (IsWidthFault checked widths)
 
--- the types with these widths; the circuit that the later stages read is the one that the text spells
+-- the types with these widths, beside the circuit that the text spells and the tree that the later stages read
 pub record IsFitted (text : List ℕ) (fitted : Fitted) : Type 0 where
-  pub same : fitted.checked.circuit ≡ fitted.checked.resolved
-  pub widthed : IsWidthed text fitted.checked.resolved
+  pub widthed : IsWidthed text fitted.checked.circuit fitted.checked.resolved
   pub types : IsFittedCircuit fitted.checked.resolved fitted
 
 -- every leaf that must be driven is
@@ -131,9 +133,9 @@ pub data IsFirstFault (text : List ℕ) : CircuitFault → Type 0 where
   of_layout : (tokens : List Token) (at : ℕ) → IsLexed text tokens → IsBadIndent text at → IsFirstFault text (fault.Layout (BadIndent (place text at)))
   of_grammar : (laid : List Laid) (given : ParseFault) → IsLaid text laid → FaultOf text laid given → IsFirstFault text (fault.Parse given)
   of_names : (circuit : Circuit) (given : NameFault) → IsParsed text circuit → IsFirstOfNames circuit given → IsFirstFault text (fault.Name given)
-  of_types : (circuit : Circuit) (given : TypeFault) → IsNamed text circuit → IsFirstOfTypes circuit given → IsFirstFault text (fault.Typing given)
-  of_size : (circuit : Circuit) (given : SizeFault) → IsTyped text circuit → IsFirstOfSize circuit given → IsFirstFault text (fault.Size given)
-  of_widths : (circuit : Circuit) (checked : Checked) (widths : List Width) (given : WidthFault) → IsSized text circuit → IsSolved circuit checked widths
+  of_types : (circuit tree : Circuit) (given : TypeFault) → IsNamed text circuit → IsResolved circuit tree → IsFirstOfTypes tree given → IsFirstFault text (fault.Typing given)
+  of_size : (circuit tree : Circuit) (given : SizeFault) → IsTyped text circuit tree → IsFirstOfSize tree given → IsFirstFault text (fault.Size given)
+  of_widths : (circuit tree : Circuit) (checked : Checked) (widths : List Width) (given : WidthFault) → IsSized text circuit tree → IsSolved tree checked widths
       → IsFirstOfWidths checked widths given → IsFirstFault text (fault.Width given)
   of_drives : (fitted : Fitted) (given : DriveFault) → IsFitted text fitted → IsFirstOfDrives fitted given → IsFirstFault text (fault.Drive given)
   of_clocks : (fitted : Fitted) (given : ClockFault) → IsDriven text fitted → IsFirstOfClocks fitted given → IsFirstFault text (fault.Clock given)

@@ -17,12 +17,11 @@ ghost use Rattle.sim_engine.specs.declared.fault.CircuitFault.TheVariants.{Lex a
 use clock_check::ClockFault;
 use comb_order::OrderFault;
 use drive_check::DriveFault;
-use fault_order::Fault;
 use fir_layout::LayoutFault;
 use fir_lexer::LexFault;
 use fir_names::NameFault;
 use fir_tree::ParseFault;
-use place_text::Place;
+use place_text::{Fault, Place};
 use size_check::SizeFault;
 use std::alloc::AllocError;
 use thiserror::Error;

@@ -12,13 +12,13 @@ use fir_layout::lay_out;
 use fir_lexer::lex;
 use fir_names::resolve;
 use fir_parser::parse;
-use fir_tree::{Checked, Circuit, Fitted, Scope, Types};
+use fir_tree::{Checked, Circuit, Fitted};
+use reset_resolution::resolved_circuit;
 use size_check::flat_measure;
-use std::alloc::{AllocError, Global};
+use std::alloc::Global;
 use type_check::check;
 use width_fit::{WidthFault, judge};
-use width_gathering::rules_of;
-use width_solver::solve;
+use width_solver::{rules_of, solve};
 
 /// The circuit of a text with the types that its least widths give, or the text's first fault up to the widths.
 pub fn fit_text(alloc: Global, bytes: &[u8]) -> Result<Fitted, CircuitFault>
@@ -26,10 +26,17 @@ pub fn fit_text(alloc: Global, bytes: &[u8]) -> Result<Fitted, CircuitFault>
     ensures fits { IfOk result (IsFitted bytes.now) }
     ensures fault { IfErr result (IsGiven bytes.now) }
 {
-    let circuit = parse_text(alloc, bytes)?;
-    let scope = resolve(alloc, &circuit)?;
-    let types = check(alloc, &circuit, &scope)?;
-    let checked = gather(alloc, circuit, scope, types)?;
+    let spelled = parse_text(alloc, bytes)?;
+    let scope = resolve(alloc, &spelled)?;
+    let circuit = Shared::new(alloc, spelled)?;
+    let resolved = resolved_circuit(alloc, &circuit)?;
+    let types = check(alloc, resolved.get(), &scope)?;
+    let checked = Checked {
+        circuit,
+        resolved,
+        scope,
+        types,
+    };
     flat_measure(alloc, &checked)?;
     let fitted = fit_widths(alloc, checked)?;
     Ok(fitted)
@@ -46,25 +53,6 @@ fn parse_text(alloc: Global, bytes: &[u8]) -> Result<Circuit, CircuitFault>
     let laid = lay_out(alloc, bytes, &tokens)?;
     let circuit = parse(alloc, bytes, &laid)?;
     Ok(circuit)
-}
-
-/// The circuit with what its names mean and its types. No `Reset` of it becomes an `AsyncReset`, so the later stages read the same circuit.
-fn gather(
-    alloc: Global,
-    circuit: Circuit,
-    scope: Scope,
-    types: Types,
-) -> Result<Checked, AllocError>
-    ensures { IfOk result (λ checked. (checked.circuit ≡ circuit) × (checked.resolved ≡ circuit) × (checked.scope ≡ scope) × (checked.types ≡ types)) }
-{
-    let circuit = Shared::new(alloc, circuit)?;
-    let resolved = circuit.share()?;
-    Ok(Checked {
-        circuit,
-        resolved,
-        scope,
-        types,
-    })
 }
 
 /// The circuit with the types that its least widths give, or the first fault of its widths.

@@ -1,5 +1,5 @@
 //! The compiler: from the bytes of a circuit's text to the net that serves the circuit, through all stages: tokens, layout, grammar,
-//! names, types, size, widths, driven leaves, clocks, ground statements, the passes to the net, and loops. Keeps the contract that
+//! names, resets, types, size, widths, driven leaves, clocks, ground statements, the passes to the net, and loops. Keeps the contract that
 //! `compile_text` answers the circuit that the text spells, with its fitted types and its net, whose assignments stand in an order, or
 //! exactly the first fault of the text.
 #![tactic(auto)]

@@ -1,6 +1,6 @@
 //! The ordered net of a circuit.
 
-ghost use Rattle.fault_order.specs.Verdicts.{IsVerdict};
+ghost use Rattle.place_text.specs.Verdicts.{IsVerdict};
 ghost use Rattle.fir_meaning.specs.Components.{design_of};
 ghost use Rattle.fir_meaning.specs.Certain.{IsInitialized};
 ghost use Rattle.circuit_laws.specs.WellFormed.{IsWellFormed};

@@ -1,11 +1,11 @@
 //! The passes from ground statements to the ordered net.
 
 ghost use Rattle.std.specs.Prelude.{◌<◌, ◌^◌, length, All, IfOk};
-ghost use Rattle.fault_order.specs.Verdicts.{IsVerdict};
+ghost use Rattle.place_text.specs.Verdicts.{IsVerdict};
 ghost use Rattle.fir_meaning.specs.Components.{design_of};
 ghost use Rattle.fir_meaning.specs.Certain.{IsInitialized};
 ghost use Rattle.circuit_laws.specs.WellFormed.{IsWellFormed};
-ghost use Rattle.net_meaning.specs.Nets.{IsNet};
+ghost use Rattle.ground_net.specs.Nets.{IsNet};
 ghost use Rattle.net_laws.specs.Serves.{Serves};
 ghost use Rattle.comb_order.specs.Faults.{IsFault, IsOrdered, place_of, rank_of};
 ghost use Rattle.net_laws.specs.FirstLoops.{IsLoopFault};
@@ -16,9 +16,9 @@ use crate::net_passes::passes_serve_circuits;
 use crate::passes::net_of_statements;
 use comb_order::{OrderFault, order};
 use fir_tree::Fitted;
+use ground_net::laws::drivers_mention_leaves;
 use ground_net::{GroundCircuit, Net, Ordered};
 use net_laws::loop_laws::verdicts_are_of_circuits;
-use net_meaning::laws::drivers_mention_leaves;
 use std::alloc::{AllocError, Global};
 
 /// The net of a circuit's ground statements, which serves the circuit, with its assignments in an order; or the place of the first

@@ -3,8 +3,8 @@ use Rattle.std.proofs.Common.{◌≡◌, ◌≢◌, ℕ, ◌<◌, ◌≤◌, Boo
 use Rattle.std.specs.Prelude.{Option, Some, None}
 use Rattle.std.specs.List.{flat_map, enumerate_from}
 use Rattle.place_text.specs.declared.place.Place.{Place}
-use Rattle.fault_order.specs.First.{IsFirst}
-use Rattle.fault_order.proofs.Ordering.{one_first}
+use Rattle.place_text.specs.First.{IsFirst}
+use Rattle.place_text.proofs.Ordering.{one_first}
 use Rattle.fir_tree.specs.LeafNames.{Texts}
 use Rattle.fir_types.specs.declared.fir_type.FirType.{FirType}
 use Rattle.fir_tree.specs.declared.circuit.Circuit.{Circuit}
@@ -28,22 +28,22 @@ use Rattle.crew_run.proofs.Lines.{summary_once}
 use Rattle.circuit_make.specs.Rings.{ring_text}
 use Rattle.cut_listing.specs.CircuitCuts.{IsCutText}
 use Rattle.cut_listing.proofs.Accepted.{one_cut}
-use Rattle.refine_listing.specs.RefinedTexts.{IsRefinedText}
-use Rattle.refine_listing.proofs.RefinedOnce.{one_refined_text}
-use Rattle.circuit_dump.specs.Variables.{NamesNoLeaf}
-use Rattle.circuit_dump.specs.VcdTexts.{IsVcdText}
-use Rattle.circuit_dump.proofs.DumpsOnce.{one_dump}
+use Rattle.cut_listing.specs.RefinedTexts.{IsRefinedText}
+use Rattle.cut_listing.proofs.RefinedOnce.{one_refined_text}
+use Rattle.circuit_texts.specs.Variables.{NamesNoLeaf}
+use Rattle.circuit_texts.specs.VcdTexts.{IsVcdText}
+use Rattle.circuit_texts.proofs.DumpsOnce.{one_dump}
 use Rattle.width_fit.specs.Fitting.{IsFittedCircuit}
 use Rattle.snapshot_text.specs.declared.fault.StateFault.{StateFault}
 use Rattle.snapshot_text.specs.declared.snapshot.Snapshot.{Snapshot}
 use Rattle.snapshot_text.specs.Faults.{place_of as place_in_state}
-use Rattle.log_laws.specs.Logs.{IsLogOf}
-use Rattle.log_runs.proofs.LogsOnce.{one_log}
-use Rattle.state_texts.specs.Held.{IsFirstStateFault, Begins, from_text}
-use Rattle.state_texts.specs.Texts.{IsResumedText, IsSavedText}
-use Rattle.state_texts.proofs.Sound.{IsSound, well_formed_is_sound}
-use Rattle.state_texts.proofs.Once.{fault_once, resumed_once, saved_once}
-use Rattle.state_texts.proofs.Faultless.{no_fault as no_state_fault}
+use Rattle.print_stop.specs.Logs.{IsLogOf}
+use Rattle.circuit_texts.proofs.LogsOnce.{one_log}
+use Rattle.circuit_texts.specs.Held.{IsFirstStateFault, Begins, from_text}
+use Rattle.circuit_texts.specs.StateTexts.{IsResumedText, IsSavedText}
+use Rattle.circuit_texts.proofs.Sound.{IsSound, well_formed_is_sound}
+use Rattle.circuit_texts.proofs.Once.{fault_once, resumed_once, saved_once}
+use Rattle.circuit_texts.proofs.Faultless.{no_fault as no_state_fault}
 use Rattle.sim_engine.specs.Stages.{circuit_limit, IsAccepted}
 use Rattle.sim_engine.specs.Faults.{fault_place}
 use Rattle.sim_engine.specs.declared.fault.CircuitFault.{CircuitFault}

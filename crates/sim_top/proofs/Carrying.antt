@@ -1,5 +1,5 @@
 -- How a call ends that carries out what was decided.
-use Rattle.std.proofs.Common.{◌≡◌, ◌≢◌, ℕ, ◌≤◌, List, ◌++◌, ◌⊎◌, ⊎_elim, inl, inr, Option, arith}
+use Rattle.std.proofs.Common.{◌≡◌, ℕ, ◌≤◌, List, ◌++◌, ◌⊎◌, ⊎_elim, inl, inr, Option, arith}
 use Rattle.std.specs.Prelude.{codes, Some, None}
 use Rattle.sim_top.specs.declared.judge.Decision.{Decision}
 use Rattle.sim_top.specs.declared.judge.Decision.TheVariants as decision

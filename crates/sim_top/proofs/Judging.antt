@@ -3,26 +3,26 @@ use Rattle.std.proofs.Common.{◌≡◌, ◌≢◌, ℕ, ◌<◌, ◌≤◌, tru
 use Rattle.std.specs.Prelude.{Option, Some, None, option_map, Result, Ok, Err, codes}
 use Rattle.place_text.specs.declared.place.Place.{Place}
 use Rattle.place_text.specs.Places.{first_place}
-use Rattle.fault_order.specs.First.{IsFirst}
-use Rattle.fault_order.specs.Verdicts.{IsVerdict}
+use Rattle.place_text.specs.First.{IsFirst}
+use Rattle.place_text.specs.Verdicts.{IsVerdict}
 use Rattle.fir_meaning.specs.Components.{design_of}
 use Rattle.stimulus.specs.declared.stimulus.Stimulus.{Stimulus}
 use Rattle.stimulus.specs.declared.fault.StimFault.{StimFault}
 use Rattle.stimulus.specs.Faults.{IsFault, place_of, rank_of}
 use Rattle.stimulus.specs.Stimuli.{IsStimulus}
 use Rattle.ground_net.specs.declared.net.PortLeaf.{PortLeaf}
-use Rattle.net_meaning.specs.Cycles as net_cycles
+use Rattle.ground_net.specs.Cycles as net_cycles
 use Rattle.snapshot_text.specs.declared.snapshot.Snapshot.{Snapshot}
 use Rattle.snapshot_text.specs.declared.fault.StateFault.{StateFault}
 use Rattle.snapshot_text.specs.Cells.{cells_of}
 use Rattle.snapshot_text.specs.Snapshots.{IsSnapshot}
 use Rattle.snapshot_text.specs.Faults.{IsFault as IsStateFault, place_of as place_in_state, rank_of as rank_in_state}
-use Rattle.state_texts.specs.Held.{IsStartOf}
-use Rattle.state_texts.specs.Texts.{IsResumedText, IsSavedText}
+use Rattle.circuit_texts.specs.Held.{IsStartOf}
+use Rattle.circuit_texts.specs.StateTexts.{IsResumedText, IsSavedText}
 use Rattle.cut_listing.specs.CircuitCuts.{IsCutText}
-use Rattle.refine_listing.specs.RefinedTexts.{IsRefinedText}
-use Rattle.circuit_dump.specs.Variables.{NamesNoLeaf}
-use Rattle.circuit_dump.specs.NetNames.{AreNumbersOf}
+use Rattle.cut_listing.specs.RefinedTexts.{IsRefinedText}
+use Rattle.circuit_texts.specs.Variables.{NamesNoLeaf}
+use Rattle.circuit_texts.specs.NetNames.{AreNumbersOf}
 use Rattle.circuit_run.specs.Ports.{ArePortsOf}
 use Rattle.circuit_run.proofs.Parts.{ports_of_circuit}
 use Rattle.trace_print.specs.Listing.{listing_of}

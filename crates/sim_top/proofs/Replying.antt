@@ -129,9 +129,6 @@ no_usage_texts text stimulus (decision.Save built settings start) s one = cc
 no_usage_texts text stimulus (decision.Resume built settings watched start) s one = cc
 no_usage_texts text stimulus (decision.Log built settings) s one = cc
 
-pub usage_ready : (b : List ℕ) → b ≡ codes "usage\n" → IsReply 1 b
-usage_ready b e = inr (inl (refl, e))
-
 pub whole_ready : (b : List ℕ) (s : ℕ) (fault : WholeFault) → s ≡ 2 → b ≡ whole_bytes fault first_place → IsReply s b
 whole_ready b s fault two e = inr (inr (rw (two, e) (of_whole fault first_place)))
 
@@ -287,12 +284,6 @@ unwritten words texts IsText result old new answers put status none = ⊎_elim
     (λ z. let p = put.all z in absurd (none p.0 (answers p.0 p.1)))
     (λ more. ⊎_elim (λ five. let p = put.part five in absurd (none p.0 (answers p.0 p.1))) (λ six. inr six) more) status
 
-pub said_few : (status result : ℕ) (bytes : List ℕ) (old new : Option (List ℕ)) → status ≤ 3 → IsSaid result status bytes old new → result ≤ 6
-said_few status result bytes old new few said = ⊎_elim (λ five. omega arith) (λ n. let s = (said.all n).0 in omega arith) (cases_eq result 5)
-
-pub said_untouched : (status result : ℕ) (bytes : List ℕ) (old new : Option (List ℕ)) → status ≤ 3 → IsSaid result status bytes old new → result ≡ 4 → ⊥
-said_untouched status result bytes old new few said four = let n : result ≢ 5 = omega arith in let s = (said.all n).0 in omega arith
-
 usage_bytes : (s : ℕ) (b : List ℕ) → IsReply s b → s ≡ 1 → b ≡ codes "usage\n"
 usage_bytes s b reply one = ⊎_elim (λ zero. absurd (omega arith))
     (λ more. ⊎_elim (λ (u : (s ≡ 1) × (b ≡ codes "usage\n")). u.1) (λ line. let two = (line_status s b line).0 in absurd (omega arith)) more) reply
@@ -329,24 +320,12 @@ pub said_answered : (words : List (List ℕ)) (texts : List ℕ → Option (List
 said_answered words texts status result bytes old new answers said few =
     let n : result ≢ 5 = omega arith in (bytes, subst (λ x. Answers words texts x bytes) (sym (said.all n).0) answers)
 
--- what a run's status can't be, and what it may be
-pub run_other : (result other : ℕ) (bytes : List ℕ) (old new : Option (List ℕ)) → IsRun result bytes old new → 1 ≤ other → other ≤ 4 → result ≡ other → ⊥
-run_other result other bytes old new run least most e =
-    ⊎_elim (λ z. omega (arith, e, least, z)) (λ more. ⊎_elim (λ five. omega (arith, e, most, five)) (λ six. omega (arith, e, most, six)) more) run.status
-
-pub run_few : (result : ℕ) (bytes : List ℕ) (old new : Option (List ℕ)) → IsRun result bytes old new → result ≤ 6
-run_few result bytes old new run = ⊎_elim (λ z. omega (arith, z)) (λ more. ⊎_elim (λ five. omega (arith, five)) (λ six. omega (arith, six)) more) run.status
-
 pub run_answered : (words : List (List ℕ)) (texts : List ℕ → Option (List ℕ)) (result : ℕ) (bytes : List ℕ) (old new : Option (List ℕ)) → Answers words texts 0 bytes
     → IsRun result bytes old new → result ≤ 3 → (others : List ℕ) × Answers words texts result others
 run_answered words texts result bytes old new answers run few = (bytes, subst (λ x. Answers words texts x bytes) (sym zero) answers)
   where
     zero : result ≡ 0
     zero = ⊎_elim (λ z. z) (λ more. ⊎_elim (λ five. absurd (omega (arith, few, five))) (λ six. absurd (omega (arith, few, six))) more) run.status
-
-pub run_complete : (result : ℕ) (bytes : List ℕ) (old new : Option (List ℕ)) → IsRun result bytes old new → (result ≡ 5 → ⊥) → (result ≤ 3) ⊎ (result ≡ 6)
-run_complete result bytes old new run kept =
-    ⊎_elim (λ z. inl (omega (arith, z))) (λ more. ⊎_elim (λ five. absurd (kept five)) (λ six. inr six) more) run.status
 
 -- nothing was written
 nothing : (new : Option (List ℕ)) (before : List ℕ) → new ≡ Some before → new ≡ Some (before ++ [])
@@ -432,10 +411,6 @@ said_status status result bytes old new said = ⊎_elim (λ five. inr (inl five)
 -- where it failed, its count rose
 pub said_rose : (status result : ℕ) (Failed : Type 0) → status ≤ 3 → (result ≢ status → Failed) → result ≡ 5 → Failed
 said_rose status result Failed few rose five = rose (λ same. omega (arith, few, same, five))
-
--- where the sink didn't fail, a reply was written
-pub said_complete : (status result : ℕ) (Failed : Type 0) → status ≤ 3 → (result ≢ status → Failed) → (Failed → ⊥) → (result ≤ 3) ⊎ (result ≡ 6)
-said_complete status result Failed few rose kept = ⊎_elim (λ same. inl (omega (arith, few, same))) (λ n. absurd (kept (rose n))) (cases_eq result status)
 
 pub err_same : {A E : Type 0} (x y : E) → ◌≡◌ {A = Result A E} (Err x) (Err y) → x ≡ y
 err_same x y e = cc e

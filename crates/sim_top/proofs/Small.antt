@@ -1,14 +1,14 @@
--- The net of a built circuit has few leaves and few sinks.
-use Rattle.std.proofs.Common.{◌≡◌, ℕ, ◌+◌, ◌<◌, ◌≤◌, List, length, arith}
+-- The net of a built circuit has few leaves, few inputs and few sinks.
+use Rattle.std.proofs.Common.{ℕ, ◌+◌, ◌<◌, ◌≤◌, List, length, ap, arith}
 use Rattle.std.proofs.lemmas.List.{length-map}
-use Rattle.fault_order.specs.First.{HasNone}
+use Rattle.place_text.specs.First.{HasNone}
 use Rattle.fir_tree.specs.declared.scope.Fitted.{Fitted}
 use Rattle.fir_meaning.specs.Components.{design_of}
 use Rattle.fitted_laws.specs.Accepted.{IsAccepted}
 use Rattle.ground_net.specs.declared.net.Net.{Net}
 use Rattle.ground_net.specs.declared.net.PortLeaf.{PortLeaf}
 use Rattle.ground_net.specs.Cones.{sinks}
-use Rattle.ground_net.specs.Watching.{watched}
+use Rattle.ground_net.specs.Watching.{inputs, watched}
 use Rattle.net_of_circuit.specs.NetOf.{IsNetOf}
 use Rattle.size_check.specs.Limits.{IsFault}
 use Rattle.cut_listing.specs.CircuitCuts.{watch}
@@ -27,6 +27,12 @@ of_built Says law text built is =
 
 pub few : OfNets (λ net. length net.leaves ≤ 65536) → (text : List ℕ) (built : Built) → IsBuilt text built → length built.ordered.net.leaves < 4294967296
 few law text built is = let low = of_built (λ net. length net.leaves ≤ 65536) law text built is in omega (arith, low)
+
+pub few_inputs : OfNets (λ net. length (inputs net) ≤ 65536) → (text : List ℕ) (built : Built) → IsBuilt text built → length built.ports.inputs < 4294967296
+few_inputs law text built is =
+    let low = of_built (λ net. length (inputs net) ≤ 65536) law text built is in
+    let same = ap (λ (l : List PortLeaf). length l) is.inputs in
+    omega (arith, low, same)
 
 pub few_sinks : OfNets (λ net. length (watched net) ≤ 65536) → OfNets (λ net. (watch : List ℕ) → length (sinks net watch) ≤ length watch + 1065536)
     → (text : List ℕ) (built : Built) → IsBuilt text built → length (sinks built.ordered.net (watch built.ordered.net)) < 4294967296

@@ -3,7 +3,7 @@ use Rattle.std.specs.Prelude.{◌≡◌, ◌≢◌, ℕ, ◌<◌, ◌≤◌, fal
 use Rattle.place_text.specs.Places.{fault_line_bytes, first_place}
 use Rattle.place_text.specs.declared.place.Place.{Place}
 use Rattle.place_text.specs.declared.place.TextPart.TheVariants.{Circuit as Circuit_part, Stimulus as Stimulus_part, State as State_part}
-use Rattle.fault_order.specs.First.{IsFirst, HasNone as HasNoFault}
+use Rattle.place_text.specs.First.{IsFirst, HasNone as HasNoFault}
 use Rattle.fir_tree.specs.LeafNames.{Texts}
 use Rattle.fir_tree.specs.declared.scope.Fitted.{Fitted}
 use Rattle.fir_meaning.specs.Components.{Design, design_of}
@@ -18,14 +18,14 @@ use Rattle.trace_print.specs.Listing.{listing_of}
 use Rattle.crew_run.specs.Summaries.{IsSummary}
 use Rattle.circuit_make.specs.Rings.{ring_text}
 use Rattle.cut_listing.specs.CircuitCuts.{IsCutText}
-use Rattle.refine_listing.specs.RefinedTexts.{IsRefinedText}
-use Rattle.circuit_dump.specs.Variables.{NamesNoLeaf}
-use Rattle.circuit_dump.specs.VcdTexts.{IsVcdText}
+use Rattle.cut_listing.specs.RefinedTexts.{IsRefinedText}
+use Rattle.circuit_texts.specs.Variables.{NamesNoLeaf}
+use Rattle.circuit_texts.specs.VcdTexts.{IsVcdText}
 use Rattle.snapshot_text.specs.declared.fault.StateFault.{StateFault}
 use Rattle.snapshot_text.specs.Faults.{place_of as place_in_state, kind_of as kind_in_state}
-use Rattle.state_texts.specs.Held.{IsFirstStateFault}
-use Rattle.state_texts.specs.Texts.{IsResumedText, IsSavedText}
-use Rattle.log_laws.specs.Logs.{IsLogOf}
+use Rattle.circuit_texts.specs.Held.{IsFirstStateFault}
+use Rattle.circuit_texts.specs.StateTexts.{IsResumedText, IsSavedText}
+use Rattle.print_stop.specs.Logs.{IsLogOf}
 use Rattle.sim_engine.specs.Stages.{circuit_limit, IsAccepted, IsFirstFault}
 use Rattle.sim_engine.specs.Faults.{kind_name, fault_place}
 use Rattle.sim_engine.specs.declared.fault.CircuitFault.{CircuitFault}

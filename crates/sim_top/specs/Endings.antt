@@ -7,17 +7,17 @@ use Rattle.stimulus.specs.declared.stimulus.Stimulus.{Stimulus}
 use Rattle.stimulus.specs.declared.fault.StimFault.{StimFault}
 use Rattle.stimulus.specs.Stimuli.{IsFormed}
 use Rattle.ground_net.specs.Watching.{inputs}
-use Rattle.net_meaning.specs.Cycles.{NetState}
+use Rattle.ground_net.specs.Cycles.{NetState}
 use Rattle.snapshot_text.specs.declared.snapshot.Snapshot.{Snapshot}
 use Rattle.snapshot_text.specs.declared.fault.StateFault.{StateFault}
 use Rattle.snapshot_text.specs.Texts.{most_cycles}
 use Rattle.snapshot_text.specs.Snapshots.{HoldsState}
-use Rattle.state_texts.specs.Held.{IsStartOf}
-use Rattle.state_texts.specs.Texts.{IsResumedText, IsSavedText}
+use Rattle.circuit_texts.specs.Held.{IsStartOf}
+use Rattle.circuit_texts.specs.StateTexts.{IsResumedText, IsSavedText}
 use Rattle.circuit_run.specs.NetRuns.{watch}
 use Rattle.circuit_run.specs.Traces.{IsTraceText}
-use Rattle.circuit_dump.specs.NetNames.{AreNumbersOf}
-use Rattle.circuit_dump.specs.VcdTexts.{IsVcdText}
+use Rattle.circuit_texts.specs.NetNames.{AreNumbersOf}
+use Rattle.circuit_texts.specs.VcdTexts.{IsVcdText}
 use Rattle.sim_engine.specs.Building.{IsBuilt}
 use Rattle.sim_engine.specs.declared.compile.Built.{Built}
 use Rattle.sim_engine.specs.declared.fault.CircuitFault.{CircuitFault}

@@ -11,25 +11,22 @@ ghost use Rattle.stimulus.specs.Faults.{place_of};
 ghost use Rattle.stimulus.specs.Stimuli.{IsFormed};
 ghost use Rattle.fir_meaning.specs.Components.{design_of};
 ghost use Rattle.cut_listing.specs.CircuitCuts.{IsCutText};
-ghost use Rattle.refine_listing.specs.RefinedTexts.{IsRefinedText};
+ghost use Rattle.cut_listing.specs.RefinedTexts.{IsRefinedText};
 ghost use Rattle.asked_texts.specs.Commands.{AreInRange, IsShort, Told, joined_limit, state_limit, Run, Vcd, Save, Resume, Log, job, text_given};
 ghost use Rattle.asked_texts.specs.Texts.{stimulus_limit, reads_all, HasNone, IsPart};
 ghost use Rattle.sim_top.specs.Answers.{fault_bytes, whole_bytes, stimulus_bytes, whole_stimulus_bytes, state_bytes, whole_state_bytes, RefusesStimulus, TakesStimulus, RefusesState, TakesState, JudgesTexts, Judges};
 ghost use Rattle.sim_top.specs.declared.judge.Reply.{Reply as TheReply};
 ghost use Rattle.sim_top.specs.Endings.{IsFaultLine, Gives, IsFor, IsRunnable};
 ghost use Rattle.snapshot_text.specs.Faults.{place_of as place_in_state};
-ghost use Rattle.state_texts.specs.Held.{IsStartOf};
+ghost use Rattle.circuit_texts.specs.Held.{IsStartOf};
 
 use asked_texts::{Command, StateText, WholeFault, split};
 use bit_words::List;
-use circuit_dump::variables;
-use circuit_state::first_snapshot;
+use circuit_texts::{first_snapshot, variables};
 use crew_run::watched_numbers;
-use cut_listing::circuit_cut;
-use fault_order::Fault;
+use cut_listing::{circuit_cut, circuit_refine};
 use fir_tree::Fitted;
-use place_text::{Place, TextPart, fault_line};
-use refine_listing::circuit_refine;
+use place_text::{Fault, Place, TextPart, fault_line};
 use sim_engine::{Built, CIRCUIT_LIMIT, CircuitFault, compile_text};
 use size_laws::laws::accepted_nets_are_small;
 use snapshot_text::{Snapshot, StateFault, read_state};
@@ -259,6 +256,7 @@ fn divide_refined(alloc: Global, built: &Built, workers: u32) -> Result<Reply, A
     requires most { workers ≤ 64 }
     ensures { IfOk result (λ r. (r.status ≡ 0) × IsRefinedText built.now.fitted.checked.resolved.names (design_of built.now.fitted) workers r.bytes.items) }
 {
+    accepted_nets_are_small();
     Ok(Reply {
         status: 0,
         bytes: circuit_refine(alloc, &built.ordered, &built.ports, workers)?,
@@ -288,6 +286,7 @@ fn dump(
     ensures judges { IfOk result (λ d. (text : List ℕ) → IsBuilt text built → Gives (JudgesTexts (Vcd (map (λ name. name.now) names.now)) text stimulus.now) d) }
     ensures fits { IfOk result (IsFor (Vcd (map (λ name. name.now) names.now))) }
 {
+    accepted_nets_are_small();
     let Some(numbers) = variables(alloc, &built.ordered, &built.ports, names)? else {
         let reply = refuse_whole(alloc, WholeFault::WatchUnknown)?;
         return Ok(Decision::Say(reply));
@@ -406,8 +405,6 @@ fn take_state(
 }
 
 /// The stimulus of a text for a circuit, or the line with which the text is refused.
-///
-/// More inputs than a `u32` numbers are a want of memory.
 fn take_stimulus(
     alloc: Global,
     built: &Built,
@@ -425,9 +422,7 @@ fn take_stimulus(
         let reply = refuse_long_stimulus(alloc)?;
         return Ok(Err(reply));
     }
-    let Ok(_) = u32::try_from(built.ports.inputs.len()) else {
-        return Err(AllocError);
-    };
+    accepted_nets_are_small();
     match read_stimulus(alloc, text, &built.ports) {
         Ok(settings) => Ok(Ok(settings)),
         Err(fault) => {

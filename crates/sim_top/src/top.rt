@@ -6,8 +6,8 @@ ghost use Rattle.fir_tree.specs.LeafNames.{text_of};
 ghost use Rattle.fir_meaning.specs.Components.{design_of};
 ghost use Rattle.circuit_run.specs.Traces.{IsTraceText};
 ghost use Rattle.circuit_run.specs.declared.fault.RunFault.TheVariants.{WriteFault};
-ghost use Rattle.circuit_dump.specs.NetNames.{AreNumbersOf};
-ghost use Rattle.circuit_dump.specs.VcdTexts.{IsVcdText};
+ghost use Rattle.circuit_texts.specs.NetNames.{AreNumbersOf};
+ghost use Rattle.circuit_texts.specs.VcdTexts.{IsVcdText};
 ghost use Rattle.circuit_make.specs.Rings.{InRange, ring_text};
 ghost use Rattle.crew_run.specs.Summaries.{IsSummary};
 ghost use Rattle.sim_engine.specs.Stages.{circuit_limit};
@@ -16,8 +16,8 @@ ghost use Rattle.asked_texts.specs.Commands.{AreInRange, IsShort, joined_limit, 
 ghost use Rattle.sim_top.specs.Needing.{NeedsFor, Needs};
 ghost use Rattle.sim_top.specs.Answers.{IsLogText, JudgesTexts, Judges, AnswersTo, Answers};
 ghost use Rattle.sim_top.specs.Endings.{Ends, IsSaid, IsRun, IsWritten, IsCarriedOut, IsFaultLine, IsReply, Gives, IsFor, IsReady, IsRunnable, IsDumpable, IsSavable, IsResumable, IsLoggable, status_of};
-ghost use Rattle.state_texts.specs.Held.{IsStartOf};
-ghost use Rattle.state_texts.specs.Texts.{IsResumedText, IsSavedText};
+ghost use Rattle.circuit_texts.specs.Held.{IsStartOf};
+ghost use Rattle.circuit_texts.specs.StateTexts.{IsResumedText, IsSavedText};
 
 use crate::judge::{
     Decision, JOINED_LIMIT, Reply, STATE_LIMIT, STIMULUS_LIMIT, judge, judge_texts,
@@ -25,11 +25,9 @@ use crate::judge::{
 };
 use asked_texts::{Asked, Command, Keeping, StateText, WholeFault, order_of};
 use bit_words::List;
-use circuit_dump::simulate_vcd;
-use circuit_log::{LogPlan, simulate_log};
 use circuit_make::{MakeFault, make_joined};
 use circuit_run::RunFault;
-use circuit_state::{resume, save};
+use circuit_texts::{LogPlan, resume, save, simulate_log, simulate_vcd};
 use command_words::read_words;
 use crew_run::{CutPlan, Host, Plan, simulate, simulate_cut, summarize};
 use crew_workers::Gate;
@@ -37,6 +35,7 @@ use cut_refine::refined_cut;
 use register_table::Closed;
 use shelf_io::{Shelf, Sink, TakeFault, put_all, take_text};
 use sim_engine::{Built, CIRCUIT_LIMIT};
+use size_laws::laws::accepted_nets_are_small;
 use snapshot_text::Snapshot;
 use std::alloc::{AllocError, Global};
 use std::sync::Wait;
@@ -555,6 +554,7 @@ fn run_refined<R: Threads + Wait + Sync, G: Gate + Sync, K: Sink>(
     ensures rose { result ≡ Err WriteFault → Rose (K.faults sink.old) (K.faults sink.new) }
     ensures spared { result ≢ Err WriteFault → K.faults sink.new ≡ K.faults sink.old }
 {
+    accepted_nets_are_small();
     let cut = refined_cut(alloc, &errand.built.ordered, errand.watch, crew.workers)?;
     let plan = CutPlan {
         ordered: &errand.built.ordered,
@@ -687,6 +687,7 @@ fn log<R: Threads + Wait + Sync, G: Gate + Sync, K: Sink>(
     ensures rose { result ≡ 5 → Rose (K.faults sink.old) (K.faults sink.new) }
     ensures spared { result ≢ 5 → K.faults sink.new ≡ K.faults sink.old }
 {
+    accepted_nets_are_small();
     let host = Host {
         rt: crew.rt,
         gate: crew.gate,

@@ -2,8 +2,8 @@
 use Rattle.std.proofs.Common.{◌≡◌, ℕ, ◌-◌, ◌^◌, ◌<◌, min, Bool, true, false, ◌||◌, refl, sym, ap₂, ◌∙◌, arith, true≢false, lit≤, lit<, nat_lt}
 use Rattle.std.specs.Prelude.{Some}
 use Rattle.std.proofs.lemmas.Bool.{ltb-true, ltb-false}
-use Rattle.fault_order.specs.First.{IsFirst, HasNone}
-use Rattle.fault_order.specs.Order.{by_rank, Precedes}
+use Rattle.place_text.specs.First.{IsFirst, HasNone}
+use Rattle.place_text.specs.Order.{by_rank, Precedes}
 use Rattle.fir_tree.specs.declared.circuit.Circuit.{Circuit}
 use Rattle.size_check.specs.declared.sums.Total.{Total}
 use Rattle.size_check.specs.declared.measure.Measure.{Measure}

@@ -1,7 +1,7 @@
 //! The measure of a circuit, or the fault that it is too large.
 
 ghost use Rattle.std.specs.Prelude.{◌≡◌, sum, map};
-ghost use Rattle.fault_order.specs.Verdicts.{IsVerdict};
+ghost use Rattle.place_text.specs.Verdicts.{IsVerdict};
 ghost use Rattle.fir_types.specs.Leaves.{count};
 ghost use Rattle.size_check.specs.Caps.{cap};
 ghost use Rattle.size_check.specs.Faults.{place_of, rank_of};

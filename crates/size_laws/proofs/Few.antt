@@ -4,15 +4,16 @@ use Rattle.std.specs.List.{filter_map, cons_option, range_with_len}
 use Rattle.std.proofs.lemmas.Grind.{common_steps}
 use Rattle.std.proofs.lemmas.Bool.{or_parts}
 use Rattle.std.proofs.lemmas.Bool.Decides.{nat_tests}
-use Rattle.fault_order.specs.First.{HasNone}
+use Rattle.place_text.specs.First.{HasNone}
 use Rattle.fir_tree.specs.declared.circuit.Circuit.{Circuit}
 use Rattle.fir_tree.specs.declared.scope.Fitted.{Fitted}
 use Rattle.fir_meaning.specs.Components.{design_of}
 use Rattle.ground_net.specs.declared.net.Net.{Net}
 use Rattle.ground_net.specs.declared.net.NetRegister.{NetRegister}
+use Rattle.ground_net.specs.declared.net.Role.{Role}
 use Rattle.ground_net.specs.Cones.{sinks}
-use Rattle.ground_net.specs.Watching.{is_shown, told_where, watched}
-use Rattle.net_meaning.specs.Nets.{IsNet}
+use Rattle.ground_net.specs.Watching.{told_where, port_leaves}
+use Rattle.ground_net.specs.Nets.{IsNet}
 use Rattle.net_of_circuit.specs.NetOf.{IsNetOf}
 use Rattle.size_check.specs.declared.measure.Measure.{Measure}
 use Rattle.size_check.specs.declared.fault.SizeFault.TheVariants.{TooLarge}
@@ -119,7 +120,7 @@ few_sinks counts counted paths fitted same none net of watch =
     let registers = registers_below net of.well_formed in
     omega (arith, all, leaves, memories, registers)
 
--- Watched leaves
+-- Leaves of main's ports
 
 fewer : {A B : Type 0} (f : A → Option B) (xs : List A) → length (filter_map f xs) ≤ length xs
 fewer f [] = omega arith
@@ -133,11 +134,11 @@ range_long : (a n : ℕ) → length (range_with_len a n) ≡ n
 range_long a zero = refl
 range_long a (suc n) = ap suc (range_long (a + 1) n)
 
-pub few_watched : AreCounted → AllPaths → (fitted : Fitted) → AreMeasured fitted → HasNone (IsFault fitted.checked.resolved) → (net : Net) → IsNetOf fitted.checked.resolved.names (design_of fitted) net
-    → length (watched net) ≤ 65536
-few_watched counted paths fitted same none net of =
+pub few_ports : (among : Role → Bool) → AreCounted → AllPaths → (fitted : Fitted) → AreMeasured fitted → HasNone (IsFault fitted.checked.resolved) → (net : Net) → IsNetOf fitted.checked.resolved.names (design_of fitted) net
+    → length (port_leaves among net) ≤ 65536
+few_ports among counted paths fitted same none net of =
     let leaves = few_leaves counted paths fitted same none net of in
-    let some = fewer (λ x. told_where is_shown x (slice_get net.leaves x)) (range_with_len 0 net.ports) in
+    let some = fewer (λ x. told_where among x (slice_get net.leaves x)) (range_with_len 0 net.ports) in
     let all = range_long 0 net.ports in
     let ports = of.well_formed.ports in
     omega (arith, leaves, some, all, ports)

@@ -1,13 +1,13 @@
 //! Laws of the measure. The functions do nothing.
 
 ghost use Rattle.std.specs.Prelude.{◌≡◌, ℕ, ◌+◌, ◌≤◌, [], false, List, length, Some};
-ghost use Rattle.fault_order.specs.First.{HasNone};
+ghost use Rattle.place_text.specs.First.{HasNone};
 ghost use Rattle.fir_tree.specs.declared.scope.Fitted.{Fitted as FittedCircuit};
 ghost use Rattle.fir_meaning.specs.Components.{TypedModule, design_of, module_named};
 ghost use Rattle.fir_names.specs.Faults.{IsFault};
 ghost use Rattle.ground_net.specs.declared.net.Net.{Net as TheNet};
 ghost use Rattle.ground_net.specs.Cones.{sinks};
-ghost use Rattle.ground_net.specs.Watching.{watched};
+ghost use Rattle.ground_net.specs.Watching.{inputs, watched};
 ghost use Rattle.net_of_circuit.specs.FlatOrder.{Placed, InFlatOrder};
 ghost use Rattle.net_of_circuit.specs.NetOf.{IsNetOf};
 ghost use Rattle.fitted_laws.specs.Accepted.{IsAccepted};
@@ -43,11 +43,12 @@ pub fn accepted_measures_are_those_of_runs()
     depths_are_those_of_paths();
 }
 
-/// And its nets are small: at most as many leaves as a run may have, no more of them watched, no more memories than its flat size may be, and no more sinks than
+/// And its nets are small: at most as many leaves as a run may have, no more of them given or watched, no more memories than its flat size may be, and no more sinks than
 /// both together besides the watched leaves.
 pub fn accepted_nets_are_small()
     ensures leaves { (fitted : FittedCircuit) → IsAccepted fitted → HasNone (IsSizeFault fitted.checked.resolved) → (net : TheNet) → IsNetOf fitted.checked.resolved.names (design_of fitted) net → length net.leaves ≤ 65536 }
     ensures watched { (fitted : FittedCircuit) → IsAccepted fitted → HasNone (IsSizeFault fitted.checked.resolved) → (net : TheNet) → IsNetOf fitted.checked.resolved.names (design_of fitted) net → length (watched net) ≤ 65536 }
+    ensures inputs { (fitted : FittedCircuit) → IsAccepted fitted → HasNone (IsSizeFault fitted.checked.resolved) → (net : TheNet) → IsNetOf fitted.checked.resolved.names (design_of fitted) net → length (inputs net) ≤ 65536 }
     ensures memories { (fitted : FittedCircuit) → IsAccepted fitted → HasNone (IsSizeFault fitted.checked.resolved) → (net : TheNet) → IsNetOf fitted.checked.resolved.names (design_of fitted) net → length net.memories ≤ 1000000 }
     ensures sinks { (fitted : FittedCircuit) → IsAccepted fitted → HasNone (IsSizeFault fitted.checked.resolved) → (net : TheNet) → IsNetOf fitted.checked.resolved.names (design_of fitted) net → (watch : List ℕ) → length (sinks net watch) ≤ length watch + 1065536 }
 {

@@ -7,9 +7,9 @@ use Rattle.ground_net.specs.declared.net.Leaf.{Leaf}
 use Rattle.ground_net.specs.declared.net.Role.{Role}
 use Rattle.ground_net.specs.declared.net.Role.TheVariants as role
 use Rattle.ground_net.specs.declared.net.Net.{Net}
-use Rattle.net_meaning.specs.Shapes.{Shape}
-use Rattle.net_meaning.specs.Cycles.{Capture, captures}
-use Rattle.net_meaning.specs.Nets.{IsNet, leaf_shape, shape_or_none, captured_shapes}
+use Rattle.ground_net.specs.Shapes.{Shape}
+use Rattle.ground_net.specs.Cycles.{Capture, captures}
+use Rattle.ground_net.specs.Nets.{IsNet, leaf_shape, shape_or_none, captured_shapes}
 use Rattle.snapshot_text.specs.Cells.{leaf_cell, is_captured, captured_cell}
 use Rattle.snapshot_text.specs.Steps.{shape_of_cell}
 

@@ -5,7 +5,7 @@ use Rattle.std.proofs.lemmas.List.{append_assoc}
 use Rattle.std.proofs.lemmas.List.Elements.{All-head, All-tail}
 use Rattle.bit_words.specs.Numbers.{WritesDigits}
 use Rattle.bit_words.specs.declared.number.Base.TheVariants.{Decimal}
-use Rattle.fault_order.specs.First.{HasNone}
+use Rattle.place_text.specs.First.{HasNone}
 use Rattle.snapshot_text.specs.declared.fault.StateFault.{StateFault}
 use Rattle.snapshot_text.specs.Cells.{Cell}
 use Rattle.snapshot_text.specs.Texts.{IsLine, AreLines, IsState}

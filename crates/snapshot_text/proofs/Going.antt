@@ -3,7 +3,7 @@ use Rattle.std.proofs.Common.{◌≡◌, ℕ, ◌<◌, ◌≤◌, List, [], ◌�
 use Rattle.std.specs.List.{AllZip}
 use Rattle.std.proofs.lemmas.List.{append_assoc, append-nil, length-drop, drop_all}
 use Rattle.place_text.specs.Places.{place}
-use Rattle.fault_order.specs.First.{IsFirst, HasNone}
+use Rattle.place_text.specs.First.{IsFirst, HasNone}
 use Rattle.snapshot_text.specs.declared.fault.StateFault.{StateFault}
 use Rattle.snapshot_text.specs.declared.fault.StateFault.TheVariants.{BadLine}
 use Rattle.snapshot_text.specs.Cells.{Cell}

@@ -6,8 +6,8 @@ use Rattle.place_text.specs.Places.{place}
 use Rattle.bit_words.specs.declared.number.Base.TheVariants.{Decimal}
 use Rattle.bit_words.specs.Numbers.{WritesDigits}
 use Rattle.bit_words.proofs.Digits.{digits_once}
-use Rattle.fault_order.specs.Order.{Precedes}
-use Rattle.fault_order.specs.First.{IsFirst}
+use Rattle.place_text.specs.Order.{Precedes}
+use Rattle.place_text.specs.First.{IsFirst}
 use Rattle.snapshot_text.specs.declared.fault.StateFault.{StateFault}
 use Rattle.snapshot_text.specs.declared.fault.StateFault.TheVariants.{BadLine, NameOrder, CyclesRange}
 use Rattle.snapshot_text.specs.Cells.{Cell}

@@ -7,14 +7,14 @@ use Rattle.std.proofs.lemmas.Bool.Decides.{nat_tests}
 use Rattle.std.proofs.lemmas.List.{append_assoc, append-nil, map-append, take_more, take_all, drop_more, drop_all}
 use Rattle.bit_words.specs.declared.value.Value.{Value}
 use Rattle.bit_words.specs.Values.{integer_of}
-use Rattle.cycle_values.specs.Values.{fitted}
-use Rattle.cycle_values.proofs.Fittings.{refitted}
-use Rattle.fault_order.specs.First.{IsFirst, HasNone}
+use Rattle.prim_ops.specs.Values.{fitted}
+use Rattle.prim_ops.proofs.Fittings.{refitted}
+use Rattle.place_text.specs.First.{IsFirst, HasNone}
 use Rattle.ground_net.specs.declared.net.Net.{Net}
 use Rattle.ground_net.specs.declared.net.PortLeaf.{PortLeaf}
 use Rattle.ground_net.specs.Watching.{AreValuesOf}
-use Rattle.net_meaning.specs.Nets.{IsNet}
-use Rattle.net_meaning.specs.Words.{words_of_value, word_count, kept, state_of}
+use Rattle.ground_net.specs.Nets.{IsNet}
+use Rattle.ground_net.specs.Words.{words_of_value, word_count, kept, state_of}
 use Rattle.snapshot_text.specs.declared.fault.StateFault.{StateFault}
 use Rattle.snapshot_text.specs.declared.cells.CellLine.{CellLine}
 use Rattle.snapshot_text.specs.Cells.{Cell, input_cell, state_cells, cells_of}

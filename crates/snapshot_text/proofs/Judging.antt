@@ -6,7 +6,7 @@ use Rattle.bit_words.specs.declared.number.Number.{Number}
 use Rattle.bit_words.specs.Numbers.{IsNumber, integer_of_number}
 use Rattle.bit_words.specs.Values.{InRange}
 use Rattle.bit_words.proofs.Readings.{sign_once, number_once}
-use Rattle.fault_order.specs.Order.{Precedes}
+use Rattle.place_text.specs.Order.{Precedes}
 use Rattle.snapshot_text.specs.declared.fault.StateFault.{StateFault}
 use Rattle.snapshot_text.specs.declared.fault.StateFault.TheVariants.{BadLine, NameOrder, ValueRange}
 use Rattle.snapshot_text.specs.Cells.{Cell}

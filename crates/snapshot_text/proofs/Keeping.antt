@@ -4,18 +4,18 @@ use Rattle.std.specs.Prelude.{zip, filter_map, option_map, ⊤, codes}
 use Rattle.std.specs.List.{flat_map, range_with_len, AllZip, cons_option}
 use Rattle.std.proofs.lemmas.List.{append_assoc, length-append, map-append}
 use Rattle.bit_words.specs.Values.{integer_of}
-use Rattle.cycle_values.proofs.Fittings.{fitted_same}
+use Rattle.prim_ops.proofs.Fittings.{fitted_same}
 use Rattle.ground_net.specs.declared.net.Leaf.{Leaf}
 use Rattle.ground_net.specs.declared.net.Net.{Net}
 use Rattle.ground_net.specs.declared.net.NetRegister.{NetRegister}
 use Rattle.ground_net.specs.declared.net.NetMemory.{NetMemory}
 use Rattle.ground_net.specs.declared.net.ElementLeaf.{ElementLeaf}
-use Rattle.net_meaning.specs.Shapes.{Shape}
-use Rattle.net_meaning.specs.Cycles.{NetState, captures}
-use Rattle.net_meaning.specs.Nets.{IsNet, IsIn, IsWithin, leaf_shape, shape_or_none, element_shape, register_shapes, element_shapes, captured_shapes}
-use Rattle.net_meaning.specs.Words.{kept, kept_all, words_of_memory, words_of, word_count, value_at, state_of, word_widths, all_word_widths, memory_word_widths, state_word_widths, AreStateWords}
-use Rattle.net_meaning.proofs.Placing.{kept_length, read_back}
-use Rattle.net_meaning.proofs.StateWords.{Fits, fits_both, kept_fits, words_back, words_within}
+use Rattle.ground_net.specs.Shapes.{Shape}
+use Rattle.ground_net.specs.Cycles.{NetState, captures}
+use Rattle.ground_net.specs.Nets.{IsNet, IsIn, IsWithin, leaf_shape, shape_or_none, element_shape, register_shapes, element_shapes, captured_shapes}
+use Rattle.ground_net.specs.Words.{kept, kept_all, words_of_memory, words_of, word_count, value_at, state_of, word_widths, all_word_widths, memory_word_widths, state_word_widths, AreStateWords}
+use Rattle.ground_net.proofs.Placing.{kept_length, read_back}
+use Rattle.ground_net.proofs.StateWords.{Fits, fits_both, kept_fits, words_back, words_within}
 use Rattle.snapshot_text.specs.Cells.{Cell, leaf_cell, register_cell, element_cell, memory_cells, captured_cell, state_cells}
 use Rattle.snapshot_text.specs.Texts.{Holds}
 use Rattle.snapshot_text.specs.Snapshots.{integers_all, integers_of_memory, integers_of_state}

@@ -4,7 +4,7 @@ use Rattle.std.proofs.lemmas.Bool.{cases_lt, false≢true}
 use Rattle.std.proofs.lemmas.List.{length-drop}
 use Rattle.place_text.specs.Places.{place}
 use Rattle.bit_words.specs.Numbers.{IsNumber}
-use Rattle.fault_order.specs.Order.{Precedes}
+use Rattle.place_text.specs.Order.{Precedes}
 use Rattle.snapshot_text.specs.declared.fault.StateFault.{StateFault}
 use Rattle.snapshot_text.specs.declared.fault.StateFault.TheVariants.{BadLine}
 use Rattle.snapshot_text.specs.Cells.{Cell}

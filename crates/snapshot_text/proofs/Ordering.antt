@@ -4,7 +4,7 @@ use Rattle.std.proofs.lemmas.Bool.{eqb-true}
 use Rattle.place_text.specs.declared.place.Place.{Place}
 use Rattle.place_text.specs.Places.{place, is_feed}
 use Rattle.place_text.proofs.Places.{place-feed, place-byte}
-use Rattle.fault_order.specs.Order.{IsNotLater, by_line, by_column, by_rank, ComesFirst, Precedes}
+use Rattle.place_text.specs.Order.{IsNotLater, by_line, by_column, by_rank, ComesFirst, Precedes}
 use Rattle.snapshot_text.specs.declared.fault.StateFault.{StateFault}
 use Rattle.snapshot_text.specs.Faults.{place_of, rank_of}
 

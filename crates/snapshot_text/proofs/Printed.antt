@@ -7,9 +7,9 @@ use Rattle.bit_words.specs.Values.{integer_of}
 use Rattle.ground_net.specs.declared.net.Net.{Net}
 use Rattle.ground_net.specs.declared.net.PortLeaf.{PortLeaf}
 use Rattle.ground_net.specs.Watching.{AreValuesOf}
-use Rattle.net_meaning.specs.Cycles.{NetState}
-use Rattle.net_meaning.specs.Nets.{IsNet}
-use Rattle.net_meaning.specs.Words.{word_count, value_at}
+use Rattle.ground_net.specs.Cycles.{NetState}
+use Rattle.ground_net.specs.Nets.{IsNet}
+use Rattle.ground_net.specs.Words.{word_count, value_at}
 use Rattle.snapshot_text.specs.declared.snapshot.Snapshot.{Snapshot}
 use Rattle.snapshot_text.specs.Cells.{Cell, input_cell, state_cells, cells_of}
 use Rattle.snapshot_text.specs.Texts.{line_text, lines_text}

@@ -11,7 +11,7 @@ use Rattle.ground_net.specs.declared.net.NetMemory.{NetMemory}
 use Rattle.ground_net.specs.declared.net.ElementLeaf.{ElementLeaf}
 use Rattle.snapshot_text.specs.Cells.{Cell, leaf_cell, is_captured, register_cell, element_cell, memory_cells, captured_cell}
 use Rattle.std.proofs.lemmas.Option.{slice_get-get_or, slice_get_within}
-use Rattle.net_meaning.specs.Nets.{IsNet}
+use Rattle.ground_net.specs.Nets.{IsNet}
 use Rattle.snapshot_text.specs.declared.cells.CellLine.{CellLine}
 use Rattle.snapshot_text.specs.declared.cells.Cursor.{Cursor}
 use Rattle.snapshot_text.specs.Steps.{cell_of, cells_from, memories_ahead, cells_ahead, IsSettled, IsNext, IsSame}

@@ -4,7 +4,7 @@ use Rattle.std.specs.List.{AllZip}
 use Rattle.bit_words.specs.declared.number.Number.{Number}
 use Rattle.bit_words.specs.declared.number.Base.TheVariants.{Decimal}
 use Rattle.bit_words.specs.Numbers.{IsNumber, WritesDigits}
-use Rattle.fault_order.specs.First.{IsFirst}
+use Rattle.place_text.specs.First.{IsFirst}
 use Rattle.snapshot_text.specs.declared.fault.StateFault.{StateFault}
 use Rattle.snapshot_text.specs.declared.lines.Parsed.{Parsed}
 use Rattle.snapshot_text.specs.Cells.{Cell}

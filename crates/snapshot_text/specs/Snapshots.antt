@@ -10,10 +10,10 @@ use Rattle.ground_net.specs.declared.net.ElementLeaf.{ElementLeaf}
 use Rattle.ground_net.specs.declared.net.PortLeaf.{PortLeaf}
 use Rattle.ground_net.specs.Cones.{numbered}
 use Rattle.ground_net.specs.Watching.{AreValuesOf}
-use Rattle.net_meaning.specs.Shapes.{Shape}
-use Rattle.net_meaning.specs.Cycles.{NetState}
-use Rattle.net_meaning.specs.Nets.{IsWithin, register_shapes, element_shapes, captured_shapes}
-use Rattle.net_meaning.specs.Words.{words_of}
+use Rattle.ground_net.specs.Shapes.{Shape}
+use Rattle.ground_net.specs.Cycles.{NetState}
+use Rattle.ground_net.specs.Nets.{IsWithin, register_shapes, element_shapes, captured_shapes}
+use Rattle.ground_net.specs.Words.{words_of}
 use Rattle.snapshot_text.specs.declared.snapshot.Snapshot.{Snapshot}
 use Rattle.snapshot_text.specs.Cells.{Cell, cells_of}
 use Rattle.snapshot_text.specs.Texts.{state_text, IsState}

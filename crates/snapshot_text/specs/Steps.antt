@@ -3,8 +3,8 @@ use Rattle.std.specs.Prelude.{◌≡◌, ◌≢◌, ◌⊎◌, ℕ, ◌+◌, ◌
 use Rattle.std.specs.List.{range_with_len}
 use Rattle.bit_words.specs.Values.{integer_of}
 use Rattle.ground_net.specs.declared.net.NetMemory.{NetMemory}
-use Rattle.net_meaning.specs.Shapes.{Shape, shaped}
-use Rattle.net_meaning.specs.Words.{word_count, value_at, kept}
+use Rattle.ground_net.specs.Shapes.{Shape, shaped}
+use Rattle.ground_net.specs.Words.{word_count, value_at, kept}
 use Rattle.snapshot_text.specs.declared.cells.CellLine.{CellLine}
 use Rattle.snapshot_text.specs.declared.cells.ElementOf.{ElementOf}
 use Rattle.snapshot_text.specs.declared.cells.Cursor.{Cursor}

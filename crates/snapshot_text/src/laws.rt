@@ -2,7 +2,7 @@
 
 ghost use Rattle.std.specs.Prelude.{◌≡◌, ℕ, ◌≤◌, List, [], ◌∷◌, All, ℤ, pos, codes};
 ghost use Rattle.std.specs.List.{AllZip};
-ghost use Rattle.fault_order.specs.First.{HasNone};
+ghost use Rattle.place_text.specs.First.{HasNone};
 ghost use Rattle.ground_net.specs.declared.net.Net.{Net as TheNet};
 ghost use Rattle.ground_net.specs.declared.net.PortLeaf.{PortLeaf as OneLeaf};
 ghost use Rattle.snapshot_text.specs.Cells.{Cell as ACell, cells_of};

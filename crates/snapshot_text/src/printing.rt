@@ -4,9 +4,9 @@ ghost use Rattle.std.specs.Prelude.{◌≡◌, ◌+◌, ◌≤◌, ◌++◌, [],
 ghost use Rattle.bit_words.specs.declared.value.Value.{Value as OneValue};
 ghost use Rattle.bit_words.specs.Values.{integer_of};
 ghost use Rattle.ground_net.specs.Watching.{AreValuesOf};
-ghost use Rattle.net_meaning.specs.Cycles.{NetState};
-ghost use Rattle.net_meaning.specs.Nets.{IsNet};
-ghost use Rattle.net_meaning.specs.Words.{word_count, value_at};
+ghost use Rattle.ground_net.specs.Cycles.{NetState};
+ghost use Rattle.ground_net.specs.Nets.{IsNet};
+ghost use Rattle.ground_net.specs.Words.{word_count, value_at};
 ghost use Rattle.snapshot_text.specs.Cells.{input_cell, element_name, state_cells};
 ghost use Rattle.snapshot_text.specs.Texts.{line_text, lines_text};
 ghost use Rattle.snapshot_text.specs.Snapshots.{HoldsState, snapshot_text};

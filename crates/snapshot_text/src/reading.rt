@@ -2,11 +2,11 @@
 
 ghost use Rattle.std.specs.Prelude.{◌≡◌, ◌⊎◌, ◌+◌, ◌<◌, ◌≤◌, ◌++◌, [], List as Listed, length, map, IfSome, IfNone, IfOk, IfErr};
 ghost use Rattle.place_text.specs.Places.{place};
-ghost use Rattle.fault_order.specs.First.{IsFirst};
-ghost use Rattle.fault_order.specs.Verdicts.{IsVerdict};
+ghost use Rattle.place_text.specs.First.{IsFirst};
+ghost use Rattle.place_text.specs.Verdicts.{IsVerdict};
 ghost use Rattle.bit_words.specs.Values.{integer_of};
 ghost use Rattle.ground_net.specs.Watching.{AreValuesOf};
-ghost use Rattle.net_meaning.specs.Nets.{IsNet};
+ghost use Rattle.ground_net.specs.Nets.{IsNet};
 ghost use Rattle.snapshot_text.specs.declared.fault.StateFault.TheVariants.{NoMemory as No_memory};
 ghost use Rattle.snapshot_text.specs.Cells.{Cell as ACell, input_cell, state_cells, cells_of};
 ghost use Rattle.snapshot_text.specs.Faults.{IsFault, place_of, rank_of};

@@ -1,7 +1,7 @@
 //! From line to line of what a net keeps between cycles.
 
 ghost use Rattle.std.specs.Prelude.{◌≡◌, ◌∷◌, [], true, ◌+◌, ◌<◌, ◌≤◌, length, slice_get, slice_index_or, Some, IfSome, IfNone};
-ghost use Rattle.net_meaning.specs.Nets.{IsNet};
+ghost use Rattle.ground_net.specs.Nets.{IsNet};
 ghost use Rattle.ground_net.specs.declared.net.Net.{Net as TheNet};
 ghost use Rattle.ground_net.specs.declared.net.NetMemory.{NetMemory as TheMemory};
 ghost use Rattle.ground_net.specs.declared.net.Leaf.{Leaf as TheLeaf};

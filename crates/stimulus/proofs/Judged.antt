@@ -3,8 +3,8 @@ use Rattle.std.proofs.Common.{◌≡◌, ℕ, ◌-◌, ◌<◌, ◌≤◌, Bool,
 use Rattle.std.specs.Prelude.{None, slice_get, Contains}
 use Rattle.std.specs.List.{AllZip}
 use Rattle.place_text.specs.Places.{place}
-use Rattle.fault_order.specs.Order.{Precedes}
-use Rattle.fault_order.specs.First.{IsFirst}
+use Rattle.place_text.specs.Order.{Precedes}
+use Rattle.place_text.specs.First.{IsFirst}
 use Rattle.bit_words.specs.declared.value.Value.{Value}
 use Rattle.bit_words.specs.declared.number.Base.TheVariants.{Decimal}
 use Rattle.bit_words.specs.declared.number.Number.{Number}

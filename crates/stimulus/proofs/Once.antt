@@ -6,7 +6,7 @@ use Rattle.bit_words.specs.declared.value.Value.{Value}
 use Rattle.bit_words.specs.Values.{integer_of, bits_of}
 use Rattle.bit_words.specs.Numbers.{integer_of_number}
 use Rattle.bit_words.proofs.Congruence.{bits_back}
-use Rattle.cycle_values.proofs.Fittings.{same_value}
+use Rattle.prim_ops.proofs.Fittings.{same_value}
 use Rattle.ground_net.specs.declared.net.Ports.{Ports}
 use Rattle.ground_net.specs.declared.net.PortLeaf.{PortLeaf}
 use Rattle.stimulus.specs.declared.stimulus.Setting.{Setting}

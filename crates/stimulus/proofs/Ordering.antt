@@ -3,7 +3,7 @@ use Rattle.std.proofs.Common.{◌≡◌, ℕ, zero, suc, ◌+◌, ◌-◌, ◌<�
 use Rattle.place_text.specs.declared.place.Place.{Place}
 use Rattle.place_text.specs.Places.{place, is_feed}
 use Rattle.place_text.proofs.Places.{place-feed, place-byte}
-use Rattle.fault_order.specs.Order.{IsNotLater, by_line, by_column, by_rank}
+use Rattle.place_text.specs.Order.{IsNotLater, by_line, by_column, by_rank}
 use Rattle.stimulus.proofs.Walking.{test_is}
 
 -- a place stands before another one

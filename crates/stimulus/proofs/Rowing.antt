@@ -10,7 +10,7 @@ use Rattle.std.proofs.lemmas.List.FromFn.{length-enumerate_from, map-range_with_
 use Rattle.std.proofs.lemmas.List.Folds.{find-append}
 use Rattle.std.proofs.lemmas.Option.{slice_get_within}
 use Rattle.bit_words.specs.declared.value.Value.{Value}
-use Rattle.cycle_values.proofs.Fittings.{same_value}
+use Rattle.prim_ops.proofs.Fittings.{same_value}
 use Rattle.ground_net.specs.declared.net.Ports.{Ports}
 use Rattle.ground_net.specs.declared.net.PortLeaf.{PortLeaf}
 use Rattle.stimulus.specs.declared.stimulus.Setting.{Setting}

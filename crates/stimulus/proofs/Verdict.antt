@@ -5,9 +5,9 @@ use Rattle.std.proofs.lemmas.Bool.{cases_lt}
 use Rattle.std.proofs.lemmas.List.{take-take}
 use Rattle.place_text.specs.Places.{place}
 use Rattle.place_text.specs.declared.place.Place.{Place}
-use Rattle.fault_order.specs.Order.{ComesFirst, Precedes}
-use Rattle.fault_order.proofs.Ordering.{itself}
-use Rattle.fault_order.specs.First.{IsFirst, HasNone}
+use Rattle.place_text.specs.Order.{ComesFirst, Precedes}
+use Rattle.place_text.proofs.Ordering.{itself}
+use Rattle.place_text.specs.First.{IsFirst, HasNone}
 use Rattle.bit_words.specs.declared.number.Base.TheVariants.{Decimal}
 use Rattle.bit_words.specs.Numbers.{WritesDigits}
 use Rattle.bit_words.proofs.Digits.{digits_once}

@@ -2,7 +2,7 @@
 use Rattle.std.specs.Prelude.{◌≡◌, ◌≢◌, ◌⊎◌, ℕ, ◌+◌, ◌-◌, ◌^◌, ◌<◌, ◌≤◌, Bool, true, false, ◌&&◌, not, List, [], ◌∷◌, ◌++◌, length, take, drop, filter, slice_get, slice_index, All, AllPairs, Contains, Option, Some, None, codes}
 use Rattle.std.specs.List.{AllZip}
 use Rattle.place_text.specs.Places.{is_feed, place}
-use Rattle.fault_order.specs.First.{IsFirst}
+use Rattle.place_text.specs.First.{IsFirst}
 use Rattle.bit_words.specs.declared.number.Base.TheVariants.{Decimal}
 use Rattle.bit_words.specs.declared.number.Number.{Number}
 use Rattle.bit_words.specs.Numbers.{WritesDigits, IsNumber, Holds, integer_of_number}

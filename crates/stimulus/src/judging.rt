@@ -2,7 +2,7 @@
 
 ghost use Rattle.std.specs.Prelude.{◌≡◌, ◌↔◌, ◌-◌, ◌<◌, ◌^◌, List, length, slice_get, Some, IsTrue, IfOk, MatchResult};
 ghost use Rattle.std.specs.List.{AllZip};
-ghost use Rattle.fault_order.specs.First.{IsFirst};
+ghost use Rattle.place_text.specs.First.{IsFirst};
 ghost use Rattle.stimulus.specs.Words.{Word as TheWord};
 ghost use Rattle.stimulus.specs.Forms.{Said};
 ghost use Rattle.stimulus.specs.Faults.{IsLineFault, place_of, rank_of};

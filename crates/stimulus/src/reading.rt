@@ -3,7 +3,7 @@
 ghost use Rattle.std.specs.Prelude.{◌≡◌, ◌⊎◌, ℕ, ◌+◌, ◌-◌, ◌<◌, ◌≤◌, ◌^◌, List as Listed, [], length, All, AllPairs, IfOk, IfErr, MatchResult};
 ghost use Rattle.std.specs.List.{AllZip};
 ghost use Rattle.place_text.specs.Places.{place};
-ghost use Rattle.fault_order.specs.Verdicts.{IsVerdict};
+ghost use Rattle.place_text.specs.Verdicts.{IsVerdict};
 ghost use Rattle.bit_words.specs.Numbers.{Holds};
 ghost use Rattle.stimulus.specs.declared.fault.StimFault.TheVariants.{CyclesRange as Cycles_range, NoMemory as No_memory};
 ghost use Rattle.stimulus.specs.Words.{behind};

@@ -1,7 +1,7 @@
 -- What was found tells all faults.
 use Rattle.std.proofs.Common.{◌≡◌, List, sym, subst}
 use Rattle.std.specs.Prelude.{Contains}
-use Rattle.fault_order.specs.First.{Tells}
+use Rattle.place_text.specs.First.{Tells}
 use Rattle.fir_tree.specs.declared.circuit.Circuit.{Circuit}
 use Rattle.type_check.specs.declared.fault.TypeFault.{TypeFault}
 use Rattle.type_check.specs.Statements.{faults_of}

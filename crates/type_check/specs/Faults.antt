@@ -1,7 +1,7 @@
 -- The faults of a circuit's types, and which is the first (FIRRTL specification 3.0, "Types", "Connects", "Expressions").
 use Rattle.std.specs.Prelude.{ℕ, List, Option, Some, None, Contains, codes}
 use Rattle.place_text.specs.declared.place.Place.{Place}
-use Rattle.fault_order.specs.First.{IsFirst as IsFirstOf}
+use Rattle.place_text.specs.First.{IsFirst as IsFirstOf}
 use Rattle.fir_tree.specs.declared.circuit.Circuit.{Circuit}
 use Rattle.type_check.specs.declared.fault.TypeFault.{TypeFault}
 use Rattle.type_check.specs.declared.fault.TypeFault.TheVariants.{FieldTwice, FieldUnknown, NotBundle, NotVector, IndexRange, IndexKind, OperandKind, NotEquivalent, FlowSink, FlowSource, ConditionKind, NotPassive, LiteralFit, MemoryField, NoMemory}

@@ -4,15 +4,15 @@ ghost use Rattle.std.specs.Prelude.{◌≡◌, ◌++◌, [], IfOk, OnOk};
 ghost use Rattle.std.specs.List.{flat_map};
 ghost use Rattle.type_check.specs.Statements.{types_of, faults_of, module_walk};
 ghost use Rattle.type_check.specs.Faults.{IsFault, place_of, rank_of};
-ghost use Rattle.fault_order.specs.Verdicts.{IsVerdict};
+ghost use Rattle.place_text.specs.Verdicts.{IsVerdict};
 
 use crate::fault::TypeFault;
 use crate::found::Findings;
 use crate::walk::walk_module;
 use bit_words::List;
-use fault_order::earliest;
 use fir_tree::{Circuit, Module, Scope, Types};
 use module_table::Modules;
+use place_text::earliest;
 use std::alloc::{AllocError, Global};
 
 /// The type of each expression in text order, or the first fault of the circuit's types by place, and at one place by kind

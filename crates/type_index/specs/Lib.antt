@@ -1,3 +1,9 @@
 pub mod Knowing
 pub mod Gathering
 pub mod Ports
+pub mod Numbers
+pub mod Tables
+pub mod Sights
+pub mod Masks
+pub mod Parts
+pub mod Memories

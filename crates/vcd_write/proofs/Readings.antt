@@ -9,7 +9,7 @@ use Rattle.std.proofs.lemmas.List.{length-map}
 use Rattle.std.proofs.lemmas.List.Elements.{All-head, All-tail, All-cons, All-nil, All-append, All-map, All-weaker}
 use Rattle.std.proofs.lemmas.Slice.Zip.{AllZip-long}
 use Rattle.bit_words.specs.declared.value.Value.{Value}
-use Rattle.cycle_values.proofs.Fittings.{same_value}
+use Rattle.prim_ops.proofs.Fittings.{same_value}
 use Rattle.ground_net.specs.declared.net.PortLeaf.{PortLeaf}
 use Rattle.vcd_write.specs.Changes.{Entry, Time, Change, all_bits, changes, stamped, later, entries, dump}
 use Rattle.vcd_write.specs.Texts.{id_of, binary, widths_of, change_line, entry_line, wires, var_line, header_lines, bits_of_row, vcd_text}

@@ -1,7 +1,7 @@
 -- What was found tells all faults.
 use Rattle.std.proofs.Common.{◌≡◌, List, sym, subst}
 use Rattle.std.specs.Prelude.{Contains}
-use Rattle.fault_order.specs.First.{Tells}
+use Rattle.place_text.specs.First.{Tells}
 use Rattle.prim_ops.specs.declared.widths.Width.{Width}
 use Rattle.fir_tree.specs.declared.scope.Checked.{Checked}
 use Rattle.width_fit.specs.declared.fault.WidthFault.{WidthFault}

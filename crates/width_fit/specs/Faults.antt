@@ -1,7 +1,7 @@
 -- The faults of a circuit's widths, and which is the first (FIRRTL specification 3.0, "Width Inference").
 use Rattle.std.specs.Prelude.{ℕ, List, Option, Some, None, Contains, codes}
 use Rattle.place_text.specs.declared.place.Place.{Place}
-use Rattle.fault_order.specs.First.{IsFirst as IsFirstOf}
+use Rattle.place_text.specs.First.{IsFirst as IsFirstOf}
 use Rattle.prim_ops.specs.declared.widths.Width.{Width}
 use Rattle.fir_tree.specs.declared.scope.Checked.{Checked}
 use Rattle.width_fit.specs.declared.fault.WidthFault.{WidthFault}

@@ -1,6 +1,6 @@
 -- A circuit with fitted types.
 use Rattle.std.specs.Prelude.{◌≡◌, List, length}
-use Rattle.fault_order.specs.First.{HasNone}
+use Rattle.place_text.specs.First.{HasNone}
 use Rattle.prim_ops.specs.declared.widths.Width.{Width}
 use Rattle.fir_tree.specs.declared.circuit.Circuit.{Circuit}
 use Rattle.fir_tree.specs.declared.scope.Checked.{Checked}

@@ -6,14 +6,14 @@ ghost use Rattle.width_rules.specs.Solutions.{IsLeast};
 ghost use Rattle.width_fit.specs.Judging.{told_of};
 ghost use Rattle.width_fit.specs.Fitting.{IsFitted};
 ghost use Rattle.width_fit.specs.Faults.{IsFault, place_of, rank_of};
-ghost use Rattle.fault_order.specs.Verdicts.{IsVerdict};
+ghost use Rattle.place_text.specs.Verdicts.{IsVerdict};
 
 use crate::fault::WidthFault;
 use crate::found::Findings;
 use crate::telling::tell;
 use bit_words::List;
-use fault_order::earliest;
 use fir_tree::{Checked, Fitted};
+use place_text::earliest;
 use std::alloc::Global;
 use width_rules::{Rules, Widths};
 

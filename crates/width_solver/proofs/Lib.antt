@@ -5,3 +5,7 @@ pub mod Replacing
 pub mod Standing
 pub mod Variables
 pub mod Waking
+mod Flips
+mod Targets
+mod Walking
+mod Whole

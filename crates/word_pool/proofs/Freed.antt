@@ -15,7 +15,7 @@ use Rattle.std.proofs.lemmas.List.{length-map}
 use Rattle.std.proofs.lemmas.List.FromFn.{length-range_with_len, get_or-range_with_len}
 use Rattle.std.proofs.lemmas.List.Kept.{AllPairs-filter}
 use Rattle.std.proofs.lemmas.List.Elements.{All-cons, All-tail}
-use Rattle.std.proofs.lemmas.List.Sorted.{sum_by_pushed, sum_by_popped, All-permutation, IsPermutation-refl}
+use Rattle.std.proofs.lemmas.List.Sorted.{sum_by_pushed, sum_by_popped, All-permutation, IsPermutation-refl, length_permutation}
 use Rattle.std.proofs.lemmas.Map.Steps.{length-le_from_distinct_below}
 use Rattle.word_pool.specs.Pools.{is_live, Takes, IsFull}
 use Rattle.word_pool.specs.Holding.{times_freed, live_of, pool_of, IsKept}
@@ -182,7 +182,7 @@ module _ (limit next slot : ℕ) (old new : BinaryHeap (Reverse ℕ) Global) (ke
     live = live_now;
     limit = refl;
     high = let h = live-le next (heap_items new) in omega (arith, h);
-    spare = omega (arith, room);
+    spare = let shorter = length_permutation (heap_items old) (record { 0 = slot } ∷ heap_items new) moved in omega (arith, room, shorter);
   }
 
 -- nothing was given back
@@ -221,7 +221,7 @@ module _ (limit next : ℕ) (old : BinaryHeap (Reverse ℕ) Global) (kept : IsKe
       live = live_next;
       limit = refl;
       high = let h = all_live (next + 1) (heap_items new) nothing in omega (arith, h);
-      spare = omega (arith, more);
+      spare = let before = ap length none in let after = ap length nothing in omega (arith, more, before, after);
     }
       where
         live_next : (k : ℕ) → is_live (pool_of limit (next + 1) new) k ≡ (eqb k next || is_live (pool_of limit next old) k)

@@ -1,5 +1,5 @@
 -- How slots are held: the numbers that were ever live are those below the next one, and those of them that were given back lie in a heap.
-use Rattle.std.specs.Prelude.{ℕ, ◌-◌, ◌<◌, ◌≤◌, ◌==◌, List, filter, All, if◌then◌else◌, sum_by}
+use Rattle.std.specs.Prelude.{ℕ, ◌+◌, ◌-◌, ◌<◌, ◌≤◌, ◌==◌, List, length, filter, All, if◌then◌else◌, sum_by}
 use Rattle.std.specs.List.{range_with_len}
 use Rattle.std.specs.Ordering.{nat_cmp}
 use Rattle.std.specs.declared.alloc.Global.{Global}
@@ -16,7 +16,7 @@ abbrev pub live_of : ℕ → List (Reverse ℕ) → List ℕ
 live_of next freed = filter (λ k. times_freed freed k == 0) (range_with_len 0 next)
 
 abbrev pub pool_of : ℕ → ℕ → BinaryHeap (Reverse ℕ) Global → Pool
-pool_of limit next freed = record { live = live_of next (heap_items freed); limit = limit; high = next; spare = heap_capacity freed - next }
+pool_of limit next freed = record { live = live_of next (heap_items freed); limit = limit; high = next; spare = heap_capacity freed + length (heap_items freed) - next }
 
 pub record IsKept (limit next : ℕ) (freed : BinaryHeap (Reverse ℕ) Global) : Type 0 where
   pub within : next ≤ limit

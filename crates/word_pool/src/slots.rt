@@ -75,7 +75,7 @@ impl Slots {
         ensures live { (k : ℕ) → is_live self.new k ≡ (is_live self.old k && not (k == slot)) }
         ensures limit { self.new.limit ≡ self.old.limit }
         ensures high { self.new.high ≡ self.old.high }
-        ensures spare { self.old.spare ≤ self.new.spare }
+        ensures spare { self.old.spare < self.new.spare }
     {
         if self.freed.push(Reverse(slot)).is_err() {
             unreachable!();

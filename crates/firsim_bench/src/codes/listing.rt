@@ -110,5 +110,6 @@ fn form_number(form: &Form) -> u32 {
         Form::Load(_) => 3,
         Form::Fit => 4,
         Form::Gate => 5,
+        Form::Pick(_) => 6,
     }
 }

@@ -2,9 +2,8 @@
 
 use super::telling::expect;
 use bit_words::{Kind, List, Rows, push_decimal};
-use fault_order::Fault;
 use ground_net::{PortLeaf, Ports};
-use place_text::{TextPart, fault_line};
+use place_text::{Fault, TextPart, fault_line};
 use std::alloc::{AllocError, Global};
 use std::test::Fail;
 use stimulus::{read_stimulus, rows};

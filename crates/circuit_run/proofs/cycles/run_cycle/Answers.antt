@@ -1,5 +1,5 @@
 use Rattle.std.proofs.Common.{sym, subst}
-use Rattle.net_meaning.specs.Cycles.{next, instant_of}
+use Rattle.ground_net.specs.Cycles.{next, instant_of}
 use Rattle.net_run.specs.Seeing.{value_at}
 use Rattle.net_run.specs.Keeping.{IsKept, AreInputValues}
 use Rattle.circuit_run.specs.NetRuns.{given_in}

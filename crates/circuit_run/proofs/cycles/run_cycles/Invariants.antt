@@ -1,5 +1,5 @@
 use Rattle.std.proofs.Common.{◌-◌}
-use Rattle.net_meaning.specs.Cycles.{NetState}
+use Rattle.ground_net.specs.Cycles.{NetState}
 use Rattle.net_run.specs.Keeping.{IsKept, StandsForState}
 use Rattle.circuit_run.specs.NetRuns.{LeadsOn}
 use Rattle.circuit_run.proofs.cycles.run_cycles.Given as goal

@@ -4,7 +4,7 @@ use Rattle.std.proofs.Math.Seq.{take-append_seam}
 use Rattle.std.proofs.lemmas.Result.{err_from_is_err_and}
 use Rattle.shelf_io.specs.Outside.{Appends}
 use Rattle.shelf_io.proofs.Written.{Appends-trans}
-use Rattle.net_meaning.specs.Cycles.{first_state}
+use Rattle.ground_net.specs.Cycles.{first_state}
 use Rattle.net_run.specs.Keeping.{IsKept}
 use Rattle.circuit_run.specs.NetRuns.{LeadsOn}
 use Rattle.circuit_run.proofs.Lists.{front_of}

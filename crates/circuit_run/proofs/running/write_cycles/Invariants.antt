@@ -1,6 +1,6 @@
 use Rattle.std.proofs.Common.{ℕ, ◌≡◌, ◌-◌, ◌≤◌, List}
 use Rattle.shelf_io.specs.Outside.{Appends}
-use Rattle.net_meaning.specs.Cycles.{first_state}
+use Rattle.ground_net.specs.Cycles.{first_state}
 use Rattle.circuit_run.specs.NetRuns.{LeadsOn}
 use Rattle.circuit_run.proofs.running.write_cycles.Given as goal
 

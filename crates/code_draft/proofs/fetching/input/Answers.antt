@@ -1,5 +1,5 @@
 use Rattle.std.proofs.Common.{[], ◌≤◌, ◌<◌, ◌∙◌, sym, subst, ap, arith}
-use Rattle.net_meaning.specs.Shapes.{shaped}
+use Rattle.ground_net.specs.Shapes.{shaped}
 use Rattle.code_draft.specs.Drafts.{Makes, IsInput, with_instr}
 use Rattle.code_draft.specs.Segments.{Step}
 use Rattle.flat_code.specs.Fine.{location_slots}

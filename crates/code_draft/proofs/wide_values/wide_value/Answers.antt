@@ -1,6 +1,6 @@
 use Rattle.std.proofs.Common.{◌∙◌, sym, subst, ap, length}
 use Rattle.flat_code.specs.declared.instr.Wide.{Wide}
-use Rattle.net_meaning.specs.Shapes.{shaped}
+use Rattle.ground_net.specs.Shapes.{shaped}
 use Rattle.code_draft.specs.Drafts.{Makes, IsForm, with_instr, with_wide}
 use Rattle.flat_code.specs.Fine.{location_slots, slots_of}
 use Rattle.code_draft.specs.Segments.{Step}

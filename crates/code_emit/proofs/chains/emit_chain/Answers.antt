@@ -1,7 +1,7 @@
 use Rattle.std.proofs.Common.{◌-◌, ◌<◌, ◌≤◌, All, drop, length, sym, subst, ap, ◌∙◌, arith}
 use Rattle.std.specs.Prelude.{IsSome}
 use Rattle.ground_net.specs.Grounds.{chosen}
-use Rattle.net_meaning.specs.Shapes.{shape_of_choice}
+use Rattle.ground_net.specs.Shapes.{shape_of_choice}
 use Rattle.flat_code.specs.Meaning.{location_shape}
 use Rattle.flat_code.specs.Fine.{location_shapes, location_slots, slots_of}
 use Rattle.code_draft.specs.Drafts.{IsDraft, Stands, Makes}

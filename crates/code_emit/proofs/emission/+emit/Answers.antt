@@ -1,17 +1,19 @@
 use Rattle.std.proofs.Common.{rules, ◌≡◌, Some, IsSome, true, [], ◌∷◌, ◌++◌, ◌+◌, take, option_map, refl, sym, subst, ap, ap₂, ◌∙◌}
 use Rattle.std.proofs.lemmas.List.{take_more}
 use Rattle.ground_net.specs.declared.ground.Ground.{the_lemmas}
-use Rattle.ground_net.specs.declared.ground.Ground.TheVariants.{Op, Mux, Select, Load, Fit, Const}
-use Rattle.net_meaning.specs.Shapes.{Shape, shaped, shape, shape_of_items, shape_of_load, is_index, all_of}
+use Rattle.ground_net.specs.declared.ground.Ground.TheVariants.{Op, Mux, Select, Indexed, Load, Fit, Const}
+use Rattle.ground_net.specs.Shapes.{Shape, shaped, shape, shape_of_items, shape_of_load, is_index, all_of}
 use Rattle.flat_code.specs.Meaning.{location_shape}
 use Rattle.flat_code.specs.Fine.{location_shapes, shape_of_picked}
-use Rattle.code_emit.specs.Emits.{sources_table, AreShaped, EmitsAll, elements_shape, shapes_in}
+use Rattle.flat_code.specs.Fine.{shape_of_pick}
+use Rattle.code_emit.proofs.Indexing.{indices_shaped, leaves_shaped, leaves_row, indices_long, pick_row, indexed_emits, indexed_spans}
+use Rattle.code_emit.specs.Emits.{as_leaves, sources_table, AreShaped, EmitsAll, elements_shape, shapes_in}
 use Rattle.code_emit.proofs.Shaped.{ok_so}
 use Rattle.code_emit.proofs.Arms.{ok_both, location_shape_by, op_shaped, op_row, mux_shaped, mux_row, index_shaped, items_shaped, items_row, index_row, load_row, load_element, fit_shaped, fit_row, fit_is, picked_shape, one_ground, one_more_shape}
 use Rattle.code_emit.proofs.Emitting.{none_emitted, const_emits, leaf_emits, op_emits, mux_emits, fit_emits, select_emits, load_emits, both_emitted, one_more_emitted}
 use Rattle.code_emit.specs.Spans.{SpansAll}
 use Rattle.code_emit.proofs.Spanning.{none_spans, fetched_spans, leaf_spans, load_spans, fit_spans, select_spans, both_span, one_more_spans}
-use Rattle.code_emit.proofs.Leaves.{no_leaf, leaf_stands, leaf-Const, leaf-Op, leaf-Mux, leaf-Select, leaf-Load, leaf-Fit}
+use Rattle.code_emit.proofs.Leaves.{no_leaf, leaf_stands, leaf-Const, leaf-Op, leaf-Mux, leaf-Select, leaf-Indexed, leaf-Load, leaf-Fit}
 use Rattle.code_emit.proofs.Nesting.{nested_shaped, nested_row, nested_emits}
 use Rattle.code_emit.proofs.Following.{mux_spans, op_spans, nested_spans}
 use Rattle.code_emit.proofs.emission.+emit.Goals as goal
@@ -410,3 +412,89 @@ emit-returns-in_ok-locations-in-Fit-clause-stands t c = no_leaf c.args.sources.n
 
 pub emit-returns-in_ok-locations-in-Some-clause-stands : goal.emit-returns-in_ok-locations-in-Some-clause-stands
 emit-returns-in_ok-locations-in-Some-clause-stands t c = no_leaf c.args.sources.now c.args.ground.now (Op c.in-Op.prim c.in-Op.operands c.in-Op.params) c.args.draft.now c.emit_nested.new.draft c.emit_nested.result c.in-Op.is (leaf-Op c.in-Op.prim c.in-Op.operands c.in-Op.params)
+
+pub emit-emit_all-requires-in-Indexed : goal.emit-emit_all-requires-in-Indexed
+emit-emit_all-requires-in-Indexed t c =
+    let table = sources_table c.args.sources.now in (
+      search (rules, the_lemmas, c.in-Indexed.is),
+      subst (AreShaped table) (sym c.as_slice-in-Indexed.ensures) (indices_shaped table c.args.ground.now c.requires c.in-Indexed.numbers c.in-Indexed.indices c.in-Indexed.lengths c.in-Indexed.is),
+    )
+
+pub emit-emit_leaves-requires : goal.emit-emit_leaves-requires
+emit-emit_leaves-requires t c = leaves_shaped (sources_table c.args.sources.now) c.args.ground.now c.requires c.in-Indexed.numbers c.in-Indexed.indices c.in-Indexed.lengths c.in-Indexed.is
+
+pub emit-items_measure-measure-requires-in-Indexed : goal.emit-items_measure-measure-requires-in-Indexed
+emit-items_measure-measure-requires-in-Indexed t c =
+    subst (λ ss. IsSome (shape_of_items (location_shapes ss))) (sym c.as_slice-in-Indexed-2.ensures)
+    (subst (λ o. IsSome o) (sym (leaves_row (sources_table c.args.sources.now) c.args.ground.now c.requires c.in-Indexed.numbers c.in-Indexed.indices c.in-Indexed.lengths c.in-Indexed.is c.in_ok-back-in-Indexed.back
+    c.in_ok-back-in-Indexed.ensures.shapes)) c.requires)
+
+pub emit-returns-in_ok-lengths-in-Indexed-clause-shape : goal.emit-returns-in_ok-lengths-in-Indexed-clause-shape
+emit-returns-in_ok-lengths-in-Indexed-clause-shape t c =
+    let S = c.args.sources.now in
+    let table = sources_table S in
+    let g = c.args.ground.now in
+    let ns = c.in-Indexed.numbers in
+    let is = c.as_slice-in-Indexed.result.now in
+    let ls = c.in_ok-lengths-in-Indexed.lengths in
+    let front = c.in_ok-front-in-Indexed.front in
+    let back = c.in_ok-back-in-Indexed.back in
+    let ss = c.in_ok-locations-in-Indexed.locations in
+    let d = c.args.draft.now in
+    let b = c.emit_leaves.new.draft in
+    let kind = c.items_measure-measure-in-Indexed.result.kind in
+    let width = c.items_measure-measure-in-Indexed.result.width in
+    let e : g ≡ Indexed ns is ls = c.in-Indexed.is ∙ ap₂ (λ os qs. Indexed ns os qs) (sym c.as_slice-in-Indexed.ensures) (sym (c.in_ok-lengths-in-Indexed.ensures ∙ c.as_slice-in-Indexed-4.ensures)) in
+    let same : ss ≡ front ++ back = c.in_ok-locations-in-Indexed.ensures ∙ ap (λ xs. front ++ xs) c.as_slice-in-Indexed-3.ensures in
+    let row : shape_of_items (location_shapes back) ≡ Some (shaped kind width) = ap (λ xs. shape_of_items (location_shapes xs)) (sym c.as_slice-in-Indexed-2.ensures) ∙ c.items_measure-measure-in-Indexed.ensures in
+    let at : shape g table ≡ Some (shaped kind width) = sym (leaves_row table g c.requires ns is ls e back c.in_ok-back-in-Indexed.ensures.shapes) ∙ row in
+    ok_so c.wide_value-in-Indexed.result (ok_both _ _ c.wide_value-in-Indexed.result c.wide_value-in-Indexed.ensures.shape c.wide_value-in-Indexed.ensures.width) (λ s h. at ∙ ap Some (sym (location_shape_by s kind width h.0 h.1)))
+
+pub emit-returns-in_ok-lengths-in-Indexed-clause-emits : goal.emit-returns-in_ok-lengths-in-Indexed-clause-emits
+emit-returns-in_ok-lengths-in-Indexed-clause-emits t c =
+    let S = c.args.sources.now in
+    let table = sources_table S in
+    let g = c.args.ground.now in
+    let ns = c.in-Indexed.numbers in
+    let is = c.as_slice-in-Indexed.result.now in
+    let ls = c.in_ok-lengths-in-Indexed.lengths in
+    let front = c.in_ok-front-in-Indexed.front in
+    let back = c.in_ok-back-in-Indexed.back in
+    let ss = c.in_ok-locations-in-Indexed.locations in
+    let d = c.args.draft.now in
+    let b = c.emit_leaves.new.draft in
+    let kind = c.items_measure-measure-in-Indexed.result.kind in
+    let width = c.items_measure-measure-in-Indexed.result.width in
+    let e : g ≡ Indexed ns is ls = c.in-Indexed.is ∙ ap₂ (λ os qs. Indexed ns os qs) (sym c.as_slice-in-Indexed.ensures) (sym (c.in_ok-lengths-in-Indexed.ensures ∙ c.as_slice-in-Indexed-4.ensures)) in
+    let same : ss ≡ front ++ back = c.in_ok-locations-in-Indexed.ensures ∙ ap (λ xs. front ++ xs) c.as_slice-in-Indexed-3.ensures in
+    let row : shape_of_items (location_shapes back) ≡ Some (shaped kind width) = ap (λ xs. shape_of_items (location_shapes xs)) (sym c.as_slice-in-Indexed-2.ensures) ∙ c.items_measure-measure-in-Indexed.ensures in
+    let at : shape g table ≡ Some (shaped kind width) = sym (leaves_row table g c.requires ns is ls e back c.in_ok-back-in-Indexed.ensures.shapes) ∙ row in
+    let both = both_emitted S is (as_leaves ns) d c.emit_all-in-Indexed.new.draft b front back c.in_ok-front-in-Indexed.ensures.emits c.in_ok-back-in-Indexed.ensures.emits in
+    let whole : shape_of_pick ls (location_shapes ss) ≡ Some (shaped kind width) =
+    ap (λ xs. shape_of_pick ls (location_shapes xs)) same ∙ (pick_row table g c.requires ns is ls e front back c.in_ok-front-in-Indexed.ensures.shapes c.in_ok-back-in-Indexed.ensures.shapes ∙ row) in
+    ok_so c.wide_value-in-Indexed.result c.wide_value-in-Indexed.ensures.makes (λ s m.
+    indexed_emits S g ns is ls d b c.wide_value-in-Indexed.new.draft ss s (shaped kind width) e (indices_long table g c.requires ns is ls e)
+    (subst (EmitsAll S (is ++ as_leaves ns) d b) (sym same) both) m whole at)
+
+pub emit-returns-in_ok-lengths-in-Indexed-clause-spans : goal.emit-returns-in_ok-lengths-in-Indexed-clause-spans
+emit-returns-in_ok-lengths-in-Indexed-clause-spans t c =
+    let S = c.args.sources.now in
+    let table = sources_table S in
+    let g = c.args.ground.now in
+    let ns = c.in-Indexed.numbers in
+    let is = c.as_slice-in-Indexed.result.now in
+    let ls = c.in_ok-lengths-in-Indexed.lengths in
+    let front = c.in_ok-front-in-Indexed.front in
+    let back = c.in_ok-back-in-Indexed.back in
+    let ss = c.in_ok-locations-in-Indexed.locations in
+    let d = c.args.draft.now in
+    let b = c.emit_leaves.new.draft in
+    let kind = c.items_measure-measure-in-Indexed.result.kind in
+    let width = c.items_measure-measure-in-Indexed.result.width in
+    let e : g ≡ Indexed ns is ls = c.in-Indexed.is ∙ ap₂ (λ os qs. Indexed ns os qs) (sym c.as_slice-in-Indexed.ensures) (sym (c.in_ok-lengths-in-Indexed.ensures ∙ c.as_slice-in-Indexed-4.ensures)) in
+    let same : ss ≡ front ++ back = c.in_ok-locations-in-Indexed.ensures ∙ ap (λ xs. front ++ xs) c.as_slice-in-Indexed-3.ensures in
+    let row : shape_of_items (location_shapes back) ≡ Some (shaped kind width) = ap (λ xs. shape_of_items (location_shapes xs)) (sym c.as_slice-in-Indexed-2.ensures) ∙ c.items_measure-measure-in-Indexed.ensures in
+    let at : shape g table ≡ Some (shaped kind width) = sym (leaves_row table g c.requires ns is ls e back c.in_ok-back-in-Indexed.ensures.shapes) ∙ row in
+    let both = both_span S is (as_leaves ns) d c.emit_all-in-Indexed.new.draft b front back c.in_ok-front-in-Indexed.ensures.spans c.in_ok-back-in-Indexed.ensures.spans in
+    ok_so c.wide_value-in-Indexed.result c.wide_value-in-Indexed.ensures.step (λ s st.
+    indexed_spans S g ns is ls d b c.wide_value-in-Indexed.new.draft ss s e (subst (SpansAll S (is ++ as_leaves ns) d b) (sym same) both) st)

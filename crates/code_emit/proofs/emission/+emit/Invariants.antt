@@ -1,5 +1,5 @@
 use Rattle.std.proofs.Common.{◌≡◌, Some, take}
-use Rattle.net_meaning.specs.Shapes.{all_of}
+use Rattle.ground_net.specs.Shapes.{all_of}
 use Rattle.flat_code.specs.Fine.{location_shapes}
 use Rattle.code_emit.specs.Emits.{sources_table, shapes_in, EmitsAll}
 use Rattle.code_emit.specs.Spans.{SpansAll}

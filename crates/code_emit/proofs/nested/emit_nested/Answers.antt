@@ -1,6 +1,6 @@
 use Rattle.std.proofs.Common.{◌≡◌, [], ◌∷◌, ◌++◌, Ok, All, subst, ap, ◌∙◌}
 use Rattle.std.specs.Prelude.{IfOk, IfSome}
-use Rattle.net_meaning.specs.Shapes.{shape_of_row}
+use Rattle.ground_net.specs.Shapes.{shape_of_row}
 use Rattle.flat_code.specs.Meaning.{location_shape}
 use Rattle.flat_code.specs.Fine.{location_shapes, location_slots, slots_of}
 use Rattle.code_draft.specs.declared.draft.Draft.{Draft}

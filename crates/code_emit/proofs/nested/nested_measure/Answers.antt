@@ -1,5 +1,5 @@
 use Rattle.std.proofs.Common.{[], ◌∷◌}
-use Rattle.net_meaning.specs.Shapes.{shape_of_row}
+use Rattle.ground_net.specs.Shapes.{shape_of_row}
 use Rattle.flat_code.specs.Fine.{location_shapes}
 use Rattle.code_emit.proofs.Nesting.{some_inner}
 use Rattle.code_emit.proofs.nested.nested_measure.Goals as goal

@@ -1,6 +1,6 @@
 use Rattle.std.proofs.Common.{◌≤◌, [], sym, subst, arith}
 use Rattle.prim_ops.specs.Results.{integer_result}
-use Rattle.cycle_values.specs.Values.{fitted}
+use Rattle.prim_ops.specs.Values.{fitted}
 use Rattle.code_emit.specs.Ways.{Given, IsWay, IsLowest}
 use Rattle.code_emit.proofs.There.{two_items}
 use Rattle.code_emit.proofs.Lowest.{fitted_lowest}

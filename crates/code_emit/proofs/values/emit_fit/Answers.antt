@@ -1,8 +1,8 @@
 use Rattle.std.proofs.Common.{refl, sym, ap, ap₂, ◌∙◌}
 use Rattle.std.specs.Prelude.{Ok}
 use Rattle.bit_words.specs.Values.{integer_of}
-use Rattle.cycle_values.specs.Values.{fitted, lone}
-use Rattle.net_meaning.specs.Shapes.{shaped, shape_of_fit}
+use Rattle.prim_ops.specs.Values.{fitted, lone}
+use Rattle.ground_net.specs.Shapes.{shaped, shape_of_fit}
 use Rattle.flat_code.specs.declared.instr.Form.TheVariants as form
 use Rattle.flat_code.specs.Fine.{location_shapes}
 use Rattle.code_emit.specs.Ways.{fit_of_one}

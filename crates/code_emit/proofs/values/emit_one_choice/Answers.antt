@@ -1,7 +1,7 @@
 use Rattle.std.proofs.Common.{◌≡◌, All, Some, refl, sym, subst, ap, ◌∙◌}
 use Rattle.std.specs.Prelude.{Ok}
 use Rattle.ground_net.specs.Grounds.{chosen}
-use Rattle.net_meaning.specs.Shapes.{Shape, shaped, shape_of_choice}
+use Rattle.ground_net.specs.Shapes.{Shape, shaped, shape_of_choice}
 use Rattle.flat_code.specs.declared.instr.Form.TheVariants as form
 use Rattle.flat_code.specs.Fine.{location_shapes}
 use Rattle.code_draft.specs.Drafts.{IsDraft, Stands, Makes}

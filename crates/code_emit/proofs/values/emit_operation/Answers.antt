@@ -1,7 +1,7 @@
 use Rattle.std.proofs.Common.{◌≡◌, All, Some, refl, sym, subst, ap, ◌∙◌}
 use Rattle.std.specs.Prelude.{Ok, IfSome}
-use Rattle.cycle_values.specs.Values.{operation}
-use Rattle.net_meaning.specs.Shapes.{Shape, shaped, shape_of_row}
+use Rattle.prim_ops.specs.Values.{operation}
+use Rattle.ground_net.specs.Shapes.{Shape, shaped, shape_of_row}
 use Rattle.flat_code.specs.declared.instr.Form.TheVariants as form
 use Rattle.flat_code.specs.Fine.{location_shapes}
 use Rattle.code_draft.specs.Drafts.{IsDraft, Stands, Makes}

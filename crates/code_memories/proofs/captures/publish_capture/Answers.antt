@@ -2,9 +2,9 @@ use Rattle.std.proofs.Common.{◌≡◌, ℕ, [], ◌∷◌, Some, slice_get, sy
 use Rattle.ground_net.specs.declared.net.NetMemory.{NetMemory}
 use Rattle.ground_net.specs.declared.net.NetPort.{NetPort}
 use Rattle.ground_net.specs.declared.net.NetRead.{NetRead}
-use Rattle.net_meaning.specs.Shapes.{shape, shaped}
+use Rattle.ground_net.specs.Shapes.{shape, shaped}
 use Rattle.code_emit.specs.Emits.{sources_table}
-use Rattle.code_publish.specs.Publishing.{Publishes}
+use Rattle.code_draft.specs.Publishing.{Publishes}
 use Rattle.code_memories.specs.Memories.{capture_of, capture_left}
 use Rattle.code_memories.specs.Writes.{PublishesLeft}
 use Rattle.code_memories.proofs.Targets.{on_ok_so}
@@ -13,8 +13,8 @@ use Rattle.code_memories.proofs.Loops.{kept_here, has_here, capture_done}
 use Rattle.flat_code.specs.Fine.{location_slots}
 use Rattle.code_draft.specs.Segments.{Segment}
 use Rattle.code_emit.proofs.Spanning.{one_told}
-use Rattle.code_registers.specs.Groups.{EvaluatesOnly}
-use Rattle.code_registers.proofs.Evaluating.{one_such}
+use Rattle.code_memories.specs.SinkGroups.{EvaluatesOnly}
+use Rattle.code_memories.proofs.RegisterEvaluating.{one_such}
 use Rattle.code_memories.specs.Groups.{IsCaptureGroup}
 use Rattle.code_memories.proofs.Evaluating.{late_here, capture_group}
 use Rattle.code_memories.proofs.Numbers.{leaf_small}

@@ -3,7 +3,7 @@ use Rattle.ground_net.specs.declared.net.NetMemory.{NetMemory}
 use Rattle.code_memories.proofs.Numbered.{some_there, some_same}
 use Rattle.code_memories.proofs.Targets.{nothing_left_yet}
 use Rattle.code_memories.proofs.Loops.{port_step, captures_done}
-use Rattle.code_registers.proofs.Evaluating.{none_such, more_such}
+use Rattle.code_memories.proofs.RegisterEvaluating.{none_such, more_such}
 use Rattle.code_memories.specs.Groups.{IsCaptureGroup}
 use Rattle.code_memories.proofs.captures.publish_captures.Goals as goal
 

@@ -1,9 +1,9 @@
 use Rattle.std.proofs.Common.{◌≡◌, Some, take, flat_map, slice_get}
 use Rattle.ground_net.specs.declared.net.NetMemory.{NetMemory}
-use Rattle.net_meaning.specs.Cycles.{captured_by}
+use Rattle.ground_net.specs.Cycles.{captured_by}
 use Rattle.code_memories.specs.Memories.{capture_left}
 use Rattle.code_memories.specs.Writes.{PublishesLeft}
-use Rattle.code_registers.specs.Groups.{EvaluatesOnly}
+use Rattle.code_memories.specs.SinkGroups.{EvaluatesOnly}
 use Rattle.code_memories.specs.Groups.{IsCaptureGroup}
 use Rattle.code_memories.proofs.captures.publish_captures.Given as goal
 

@@ -1,7 +1,7 @@
 use Rattle.std.proofs.Common.{arith}
 use Rattle.code_memories.proofs.Published.{reads_at}
 use Rattle.code_memories.proofs.Loops.{same_count, capture_step, reads_done}
-use Rattle.code_registers.proofs.Evaluating.{more_such}
+use Rattle.code_memories.proofs.RegisterEvaluating.{more_such}
 use Rattle.code_memories.specs.Groups.{IsCaptureGroup}
 use Rattle.code_memories.proofs.captures.publish_reads.Goals as goal
 

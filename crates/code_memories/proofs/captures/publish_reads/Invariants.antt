@@ -5,7 +5,7 @@ use Rattle.ground_net.specs.declared.net.NetRead.{NetRead}
 use Rattle.ground_net.specs.Cones.{numbered}
 use Rattle.code_memories.specs.Memories.{capture_of, capture_left}
 use Rattle.code_memories.specs.Writes.{PublishesLeft}
-use Rattle.code_registers.specs.Groups.{EvaluatesOnly}
+use Rattle.code_memories.specs.SinkGroups.{EvaluatesOnly}
 use Rattle.code_memories.specs.Groups.{IsCaptureGroup}
 use Rattle.code_memories.proofs.captures.publish_reads.Given as goal
 

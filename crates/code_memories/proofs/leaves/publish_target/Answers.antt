@@ -1,7 +1,7 @@
 use Rattle.std.proofs.Common.{ℕ, [], ◌∷◌, map, refl}
 use Rattle.ground_net.specs.declared.net.Net.{Net}
 use Rattle.flat_code.specs.declared.instr.Port.{Port}
-use Rattle.code_publish.specs.Writing.{PublishesBy}
+use Rattle.code_draft.specs.Writing.{PublishesBy}
 use Rattle.code_memories.specs.Writes.{TellsTarget}
 use Rattle.code_memories.proofs.Targets.{on_ok_so, target_told}
 use Rattle.ground_net.specs.declared.ground.Ground.TheVariants.{Leaf}

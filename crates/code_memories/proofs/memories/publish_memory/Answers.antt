@@ -1,13 +1,13 @@
 use Rattle.std.proofs.Common.{◌≡◌, Some, [], ◌∷◌, slice_get, flat_map}
 use Rattle.ground_net.specs.declared.net.NetMemory.{NetMemory}
 use Rattle.ground_net.specs.Cones.{A_memory}
-use Rattle.net_meaning.specs.Cycles.{captured_by}
+use Rattle.ground_net.specs.Cycles.{captured_by}
 use Rattle.code_memories.specs.Memories.{capture_left}
-use Rattle.code_registers.specs.Telling.{PublishesSinks}
+use Rattle.code_memories.specs.Telling.{PublishesSinks}
 use Rattle.code_memories.specs.Writes.{PublishesLeft}
 use Rattle.code_memories.proofs.Targets.{on_ok_so}
 use Rattle.code_memories.proofs.Loops.{memory_done}
-use Rattle.code_registers.specs.Groups.{EvaluatesOnly}
+use Rattle.code_memories.specs.SinkGroups.{EvaluatesOnly}
 use Rattle.code_memories.specs.Groups.{IsCaptureGroup, IsMemoryGroup}
 use Rattle.code_memories.proofs.Evaluating.{memory_evaluated}
 use Rattle.code_memories.proofs.memories.publish_memory.Goals as goal

@@ -5,18 +5,18 @@ use Rattle.ground_net.specs.declared.net.NetMemory.{NetMemory}
 use Rattle.ground_net.specs.declared.net.NetPort.{NetPort}
 use Rattle.ground_net.specs.declared.net.ElementLeaf.{ElementLeaf}
 use Rattle.ground_net.specs.declared.ground.Ground.TheVariants.{Leaf}
-use Rattle.net_meaning.specs.Shapes.{shape}
+use Rattle.ground_net.specs.Shapes.{shape}
 use Rattle.code_emit.specs.Emits.{sources_table}
 use Rattle.code_memories.specs.declared.places.Target.{Target}
-use Rattle.net_meaning.specs.Cycles.{shown}
-use Rattle.net_meaning.specs.Nets.{element_shape}
-use Rattle.sink_effects.specs.Effects.{leaf_told}
+use Rattle.ground_net.specs.Cycles.{shown}
+use Rattle.ground_net.specs.Nets.{element_shape}
+use Rattle.partition_code.specs.Effects.{leaf_told}
 use Rattle.code_memories.specs.Writes.{PublishesLeft, TellsTarget}
 use Rattle.code_memories.proofs.Targets.{on_ok_so}
 use Rattle.code_memories.proofs.WriteLoops.{leaf_done, address_here, source_here, conditions_here}
 use Rattle.code_emit.specs.Spans.{EvaluatesAll}
-use Rattle.code_registers.specs.Groups.{EvaluatesOnly}
-use Rattle.code_registers.proofs.Evaluating.{one_such}
+use Rattle.code_memories.specs.SinkGroups.{EvaluatesOnly}
+use Rattle.code_memories.proofs.RegisterEvaluating.{one_such}
 use Rattle.code_memories.specs.WriteGroups.{IsWriteGroup}
 use Rattle.code_memories.proofs.writes.publish_leaf.Goals as goal
 

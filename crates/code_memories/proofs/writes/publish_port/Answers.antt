@@ -4,7 +4,7 @@ use Rattle.code_memories.proofs.Numbered.{some_same}
 use Rattle.code_memories.proofs.Targets.{nothing_left_yet}
 use Rattle.code_memories.proofs.Written.{none_by, some_by, writes_at}
 use Rattle.code_memories.proofs.WriteLoops.{leaf_step, port_done, idle_done}
-use Rattle.code_registers.proofs.Evaluating.{none_such, more_such}
+use Rattle.code_memories.proofs.RegisterEvaluating.{none_such, more_such}
 use Rattle.code_memories.specs.WriteGroups.{IsWriteGroup}
 use Rattle.code_memories.proofs.writes.publish_port.Goals as goal
 

@@ -2,11 +2,11 @@ use Rattle.std.proofs.Common.{◌≡◌, Some, take, flat_map, slice_get}
 use Rattle.ground_net.specs.declared.net.NetMemory.{NetMemory}
 use Rattle.ground_net.specs.declared.net.NetPort.{NetPort}
 use Rattle.ground_net.specs.Cones.{numbered}
-use Rattle.net_meaning.specs.Cycles.{shown}
-use Rattle.net_meaning.specs.Nets.{element_shapes}
-use Rattle.sink_effects.specs.Effects.{leaf_told}
+use Rattle.ground_net.specs.Cycles.{shown}
+use Rattle.ground_net.specs.Nets.{element_shapes}
+use Rattle.partition_code.specs.Effects.{leaf_told}
 use Rattle.code_memories.specs.Writes.{PublishesLeft}
-use Rattle.code_registers.specs.Groups.{EvaluatesOnly}
+use Rattle.code_memories.specs.SinkGroups.{EvaluatesOnly}
 use Rattle.code_memories.specs.WriteGroups.{IsWriteGroup}
 use Rattle.code_memories.proofs.writes.publish_port.Given as goal
 

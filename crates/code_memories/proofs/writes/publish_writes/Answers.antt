@@ -3,7 +3,7 @@ use Rattle.ground_net.specs.declared.net.NetMemory.{NetMemory}
 use Rattle.code_memories.proofs.Numbered.{some_there, some_same}
 use Rattle.code_memories.proofs.Targets.{nothing_left_yet}
 use Rattle.code_memories.proofs.WriteLoops.{port_step, writes_done}
-use Rattle.code_registers.proofs.Evaluating.{none_such, more_such}
+use Rattle.code_memories.proofs.RegisterEvaluating.{none_such, more_such}
 use Rattle.code_memories.specs.WriteGroups.{IsWriteGroup}
 use Rattle.code_memories.proofs.writes.publish_writes.Goals as goal
 

@@ -1,8 +1,8 @@
 use Rattle.std.proofs.Common.{◌≡◌, Some, take, flat_map, slice_get}
 use Rattle.ground_net.specs.declared.net.NetMemory.{NetMemory}
-use Rattle.sink_effects.specs.Effects.{port_told}
+use Rattle.partition_code.specs.Effects.{port_told}
 use Rattle.code_memories.specs.Writes.{PublishesLeft}
-use Rattle.code_registers.specs.Groups.{EvaluatesOnly}
+use Rattle.code_memories.specs.SinkGroups.{EvaluatesOnly}
 use Rattle.code_memories.specs.WriteGroups.{IsWriteGroup}
 use Rattle.code_memories.proofs.writes.publish_writes.Given as goal
 

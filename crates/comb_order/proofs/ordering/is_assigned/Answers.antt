@@ -1,14 +1,16 @@
-use Rattle.comb_order.proofs.Leaves.{leaf_there, role_of}
+use Rattle.std.proofs.Common.{◌≡◌, Bool, true, false, sym, ◌∙◌}
+use Rattle.std.specs.Prelude.{MatchBool}
+use Rattle.ground_net.specs.Reads.{IsAssigned}
+use Rattle.comb_order.specs.Spreads.{is_assignment}
+use Rattle.comb_order.proofs.Telling.{assigned_is, is_assigned_test}
 use Rattle.comb_order.proofs.ordering.is_assigned.Goals as goal
 
-pub returns-in-Assigned : goal.returns-in-Assigned
-returns-in-Assigned c = record {
-  leaf = c.index-leaves-number.result;
-  there = leaf_there c.args.leaves.now c.args.number c.index-leaves-number.result c.requires c.index-leaves-number.is;
-  is = c.in-Assigned.is;
-}
+pub returns : goal.returns
+returns c = by c.is_assignment.result c.is_assignment.ensures
+  where
+    differ : true ≡ false → ⊥
+    differ e = cc
 
-pub returns-in_default : goal.returns-in_default
-returns-in_default c = λ is.
-    c.in_default.not-Assigned (role_of c.args.leaves.now c.args.number c.index-leaves-number.result
-    (leaf_there c.args.leaves.now c.args.number c.index-leaves-number.result c.requires c.index-leaves-number.is) is)
+    by : (b : Bool) → b ≡ is_assignment c.args.leaves.now c.args.number → MatchBool b (IsAssigned c.args.leaves.now c.args.number) (IsAssigned c.args.leaves.now c.args.number → ⊥)
+    by true e = assigned_is c.args.leaves.now c.args.number (sym e)
+    by false e = λ a. differ (sym (is_assigned_test c.args.leaves.now c.args.number a) ∙ sym e)

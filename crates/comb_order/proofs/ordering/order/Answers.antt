@@ -1,7 +1,7 @@
 use Rattle.std.proofs.Common.{refl, ap, Err}
 use Rattle.std.proofs.lemmas.Result.{err_from_is_err_and}
 use Rattle.ground_net.specs.declared.net.Ordered.{Ordered}
-use Rattle.fault_order.proofs.Verdicts.{passes}
+use Rattle.place_text.proofs.Verdicts.{passes}
 use Rattle.comb_order.specs.Faults.{IsOrdered}
 use Rattle.comb_order.proofs.Verdicts.{refused, has_none}
 use Rattle.comb_order.proofs.ordering.order.Goals as goal

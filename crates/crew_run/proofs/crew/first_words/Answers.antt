@@ -1,5 +1,5 @@
 use Rattle.std.proofs.Common.{◌≡◌, ℕ, ◌<◌, length, replicate, slice_index_or, sym, ap, ◌∙◌, arith}
-use Rattle.net_meaning.specs.Words.{state_words}
+use Rattle.ground_net.specs.Words.{state_words}
 use Rattle.crew_run.proofs.Firsts.{first_words_are, code_words}
 use Rattle.crew_run.proofs.crew.first_words.Goals as goal
 

@@ -1,6 +1,6 @@
 use Rattle.std.proofs.Common.{refl, subst, ap, ◌∙◌, arith}
 use Rattle.std.proofs.lemmas.Result.{err_from_is_err_and}
-use Rattle.net_meaning.specs.Cycles.{first_state}
+use Rattle.ground_net.specs.Cycles.{first_state}
 use Rattle.circuit_run.specs.NetRuns.{given_from}
 use Rattle.circuit_run.proofs.Writing.{nothing_written}
 use Rattle.crew_run.specs.RunTexts.{IsRunText}

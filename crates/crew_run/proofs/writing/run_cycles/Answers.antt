@@ -2,7 +2,7 @@ use Rattle.std.proofs.Common.{◌≡◌, ℕ, ◌+◌, ◌≤◌, length, sym, s
 use Rattle.std.proofs.lemmas.List.FromFn.{length-map-range_with_len}
 use Rattle.ground_net.specs.declared.net.Ordered.{Ordered}
 use Rattle.phase_core.specs.declared.model.Script.{Script}
-use Rattle.net_meaning.specs.Cycles.{Inputs}
+use Rattle.ground_net.specs.Cycles.{Inputs}
 use Rattle.circuit_run.specs.NetRuns.{inputs_from}
 use Rattle.crew_run.specs.Epochs.{Advances}
 use Rattle.crew_run.specs.Runs.{MatchGiven}

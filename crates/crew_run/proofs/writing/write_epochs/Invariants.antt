@@ -3,7 +3,7 @@ use Rattle.std.specs.Prelude.{IfSome}
 use Rattle.shelf_io.specs.Outside.{Appends}
 use Rattle.ground_net.specs.declared.net.Ordered.{Ordered}
 use Rattle.ground_net.specs.declared.net.CutPart.{CutPart}
-use Rattle.net_meaning.specs.Cycles.{NetState}
+use Rattle.ground_net.specs.Cycles.{NetState}
 use Rattle.crew_run.specs.Runs.{IsRun}
 use Rattle.crew_run.specs.Progress.{Went}
 use Rattle.crew_run.proofs.writing.write_epochs.Given as goal

@@ -23,8 +23,8 @@ loop-sink-preserved c =
     let walked = c.in_ok-walk.ensures in
     let raised = subst (λ s. Raises s c.loop-sink.counts c.raise.new.counts) c.as_slice-cone.ensures.value c.raise.ensures in
     record {
-      counts = subst (λ s. AreCounts (cone_of c.args.rows.now) (length c.args.rows.now.reads.items) s c.raise.new.counts) (sym (take_more sinks i 0 c.loop-sink-test.true))
-          (counts_more (cone_of c.args.rows.now) (length c.args.rows.now.reads.items) (take i sinks) c.loop-sink.counts c.raise.new.counts found sink inv.counts walked.listed raised (fresh_at sinks i c.requires.once c.loop-sink-test.true));
+      counts = subst (λ s. AreCounts (cone_of c.args.rows.now) c.args.rows.now.leaves s c.raise.new.counts) (sym (take_more sinks i 0 c.loop-sink-test.true))
+          (counts_more (cone_of c.args.rows.now) c.args.rows.now.leaves (take i sinks) c.loop-sink.counts c.raise.new.counts found sink inv.counts walked.listed raised (fresh_at sinks i c.requires.once c.loop-sink-test.true));
       small = λ x. ⊎_elim (λ d. omega (arith, raised.got x d, inv.small x)) (λ n. omega (arith, raised.others x n, inv.small x)) (in_list found x);
       ready = walked.ready;
       turn = omega (arith, walked.turn, inv.turn);

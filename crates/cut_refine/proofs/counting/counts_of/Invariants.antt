@@ -4,7 +4,7 @@ use Rattle.cut_refine.proofs.counting.counts_of.Given as goal
 
 abbrev pub invariant-loop-sink : goal.invariant-loop-sink
 invariant-loop-sink l = record {
-  counts : AreCounts (cone_of l.rows) (length l.rows.reads.items) (take l.sink-index l.sinks) l.counts;
+  counts : AreCounts (cone_of l.rows) l.rows.leaves (take l.sink-index l.sinks) l.counts;
   small : (x : ℕ) → slice_index l.counts x ≤ l.sink-index;
   ready : IsReady l.rows l.walker;
   turn : l.walker.turn ≡ l.sink-index;

@@ -4,8 +4,10 @@ use Rattle.std.proofs.lemmas.List.{length-map}
 use Rattle.std.proofs.lemmas.List.Elements.{Contains-get_or}
 use Rattle.std.proofs.lemmas.Option.{slice_get-get_or}
 use Rattle.ground_net.specs.declared.net.CutPart.{CutPart}
+use Rattle.cone_cutter.specs.Rows.{reads_in, needs_in}
 use Rattle.cone_cutter.specs.Loads.{parts_by}
 use Rattle.cone_cutter.proofs.Assembly.{sequence_within}
+use Rattle.cone_cutter.proofs.Wide.{reads_long}
 use Rattle.cut_refine.specs.Standing.{cone_of, AreApart, AreParted, IsStanding}
 use Rattle.cut_refine.proofs.Starting.{sinks_few, needs_few, parts_apart, start_owners, start_stands}
 use Rattle.cut_refine.proofs.Whole.{leaves_long, sinks_long, rows_are, rows_sized, falls, way_on, is_refined}
@@ -26,14 +28,14 @@ of_parts-requires-clause-assignments c =
     let watch = c.args.watch.now in
     let parts = c.args.start.now.parts in
     let long = leaves_long c.args.ordered.now.net watch c.in_ok-rows.rows c.in_ok-rows.ensures.reads c.in_ok-rows.ensures.needed in
-    subst (All (λ part. All (λ x. x < c.len-leaves.result) part.assignments)) (sym c.as_slice.ensures)
-    (λ k d lt i e less. omega (arith, needs_few ordered watch (length c.args.start.now.parts) c.args.start.now c.requires.cut k _ (slice_get-get_or parts k d lt) _ (Contains-get_or _ i e less), long, c.len-leaves.ensures, c.in_ok-rows.rows.reads.ok.0))
+    subst (All (λ part. All (λ x. x < c.in_ok-rows.rows.leaves) part.assignments)) (sym c.as_slice.ensures)
+    (λ k d lt i e less. omega (arith, needs_few ordered watch (length c.args.start.now.parts) c.args.start.now c.requires.cut k _ (slice_get-get_or parts k d lt) _ (Contains-get_or _ i e less), long))
 
 pub of_parts-requires-clause-apart : goal.of_parts-requires-clause-apart
 of_parts-requires-clause-apart c = subst AreApart (sym c.as_slice.ensures) (parts_apart c.args.ordered.now c.args.watch.now (length c.args.start.now.parts) c.args.start.now c.requires.cut)
 
 pub new-requires-2-clause-rows : goal.new-requires-2-clause-rows
-new-requires-2-clause-rows c = rows_are c.args.ordered.now.net c.args.watch.now c.in_ok-rows.rows c.in_ok-rows.ensures.reads c.in_ok-rows.ensures.needed c.requires.few c.requires.few_sinks
+new-requires-2-clause-rows c = rows_are c.args.ordered.now.net c.args.watch.now c.in_ok-rows.rows c.in_ok-rows.ensures.reads c.in_ok-rows.ensures.needed c.in_ok-rows.ensures.rows c.requires.few c.requires.few_sinks
 
 pub new-requires-2-clause-stands : goal.new-requires-2-clause-stands
 new-requires-2-clause-stands c =
@@ -46,15 +48,16 @@ new-requires-2-clause-stands c =
     let are : c.in_ok-standing.standing.costs.items ≡ map (λ (part : CutPart). length part.assignments) c.args.start.now.parts = c.in_ok-standing.ensures.costs ∙ ap (map (λ (part : CutPart). length part.assignments)) c.as_slice.ensures in
     let count : length c.in_ok-standing.standing.costs.items ≡ length c.args.start.now.parts = ap length are ∙ length-map c.args.start.now.parts (λ (part : CutPart). length part.assignments) in
     let long : length c.in_ok-standing.standing.owners.items ≡ length c.in_ok-rows.rows.needed.items = omega (arith, c.in_ok-standing.ensures.owners, c.len-sinks.ensures, c.in_ok-rows.rows.needed.ok.0) in
-    let leaves : length c.in_ok-standing.standing.masks.items ≡ length c.in_ok-rows.rows.reads.items = omega (arith, c.in_ok-standing.ensures.masks, c.len-leaves.ensures, c.in_ok-rows.rows.reads.ok.0) in
+    let leaves : length c.in_ok-standing.standing.masks.items ≡ length (reads_in c.in_ok-rows.rows) = omega (arith, c.in_ok-standing.ensures.masks, reads_long c.in_ok-rows.rows) in
     let parted = subst (λ ps. AreParted (length ps) ps c.in_ok-standing.standing.owners.items c.in_ok-standing.standing.masks.items) c.as_slice.ensures c.in_ok-standing.ensures.parted in
     record {
       long = long;
       some = omega (arith, count, c.requires.some);
       few = omega (arith, count, c.requires.most);
-      is = subst (λ n. IsStanding (cone_of c.in_ok-rows.rows) (length c.in_ok-rows.rows.reads.items) n c.in_ok-standing.standing.owners.items c.in_ok-standing.standing.masks.items c.in_ok-standing.standing.costs.items) (sym count)
+      is = subst (λ n. IsStanding (cone_of c.in_ok-rows.rows) c.in_ok-rows.rows.leaves n c.in_ok-standing.standing.owners.items c.in_ok-standing.standing.masks.items c.in_ok-standing.standing.costs.items) (sym count)
+          (subst (λ m. IsStanding (cone_of c.in_ok-rows.rows) m (length c.args.start.now.parts) c.in_ok-standing.standing.owners.items c.in_ok-standing.standing.masks.items c.in_ok-standing.standing.costs.items) (reads_long rows)
           (start_stands c.args.ordered.now c.args.watch.now (length c.args.start.now.parts) c.args.start.now c.requires.cut owners masks parted (long ∙ sinks_long net c.args.watch.now rows c.in_ok-rows.ensures.reads c.in_ok-rows.ensures.needed)
-          rows.reads.items rows.needed.items c.in_ok-rows.ensures.reads c.in_ok-rows.ensures.needed costs leaves are);
+          (reads_in rows) (needs_in rows) c.in_ok-rows.ensures.reads c.in_ok-rows.ensures.needed costs leaves are));
     }
 
 pub new-requires-2-clause-sized : goal.new-requires-2-clause-sized
@@ -70,7 +73,7 @@ refining-init c =
     let are : c.in_ok-standing.standing.costs.items ≡ map (λ (part : CutPart). length part.assignments) c.args.start.now.parts = c.in_ok-standing.ensures.costs ∙ ap (map (λ (part : CutPart). length part.assignments)) c.as_slice.ensures in
     let count : length c.in_ok-standing.standing.costs.items ≡ length c.args.start.now.parts = ap length are ∙ length-map c.args.start.now.parts (λ (part : CutPart). length part.assignments) in
     let long : length c.in_ok-standing.standing.owners.items ≡ length c.in_ok-rows.rows.needed.items = omega (arith, c.in_ok-standing.ensures.owners, c.len-sinks.ensures, c.in_ok-rows.rows.needed.ok.0) in
-    let leaves : length c.in_ok-standing.standing.masks.items ≡ length c.in_ok-rows.rows.reads.items = omega (arith, c.in_ok-standing.ensures.masks, c.len-leaves.ensures, c.in_ok-rows.rows.reads.ok.0) in
+    let leaves : length c.in_ok-standing.standing.masks.items ≡ length (reads_in c.in_ok-rows.rows) = omega (arith, c.in_ok-standing.ensures.masks, reads_long c.in_ok-rows.rows) in
     let parted = subst (λ ps. AreParted (length ps) ps c.in_ok-standing.standing.owners.items c.in_ok-standing.standing.masks.items) c.as_slice.ensures c.in_ok-standing.ensures.parted in
     let all = long ∙ sinks_long net c.args.watch.now rows c.in_ok-rows.ensures.reads c.in_ok-rows.ensures.needed in
     record {
@@ -78,9 +81,10 @@ refining-init c =
         long = long;
         some = omega (arith, count, c.requires.some);
         few = omega (arith, count, c.requires.most);
-        is = subst (λ n. IsStanding (cone_of c.in_ok-rows.rows) (length c.in_ok-rows.rows.reads.items) n c.in_ok-standing.standing.owners.items c.in_ok-standing.standing.masks.items c.in_ok-standing.standing.costs.items) (sym count)
+        is = subst (λ n. IsStanding (cone_of c.in_ok-rows.rows) c.in_ok-rows.rows.leaves n c.in_ok-standing.standing.owners.items c.in_ok-standing.standing.masks.items c.in_ok-standing.standing.costs.items) (sym count)
+            (subst (λ m. IsStanding (cone_of c.in_ok-rows.rows) m (length c.args.start.now.parts) c.in_ok-standing.standing.owners.items c.in_ok-standing.standing.masks.items c.in_ok-standing.standing.costs.items) (reads_long rows)
             (start_stands c.args.ordered.now c.args.watch.now (length c.args.start.now.parts) c.args.start.now c.requires.cut owners masks parted all
-            rows.reads.items rows.needed.items c.in_ok-rows.ensures.reads c.in_ok-rows.ensures.needed costs leaves are);
+            (reads_in rows) (needs_in rows) c.in_ok-rows.ensures.reads c.in_ok-rows.ensures.needed costs leaves are));
       };
       count = count;
       look = c.in_ok-look.ensures;
@@ -92,10 +96,10 @@ refining-init c =
     }
 
 pub make-requires-clause-rows : goal.make-requires-clause-rows
-make-requires-clause-rows c = rows_are c.args.ordered.now.net c.args.watch.now c.in_ok-rows.rows c.in_ok-rows.ensures.reads c.in_ok-rows.ensures.needed c.requires.few c.requires.few_sinks
+make-requires-clause-rows c = rows_are c.args.ordered.now.net c.args.watch.now c.in_ok-rows.rows c.in_ok-rows.ensures.reads c.in_ok-rows.ensures.needed c.in_ok-rows.ensures.rows c.requires.few c.requires.few_sinks
 
 pub new-requires-in-refining-clause-rows : goal.new-requires-in-refining-clause-rows
-new-requires-in-refining-clause-rows c = rows_are c.args.ordered.now.net c.args.watch.now c.in_ok-rows.rows c.in_ok-rows.ensures.reads c.in_ok-rows.ensures.needed c.requires.few c.requires.few_sinks
+new-requires-in-refining-clause-rows c = rows_are c.args.ordered.now.net c.args.watch.now c.in_ok-rows.rows c.in_ok-rows.ensures.reads c.in_ok-rows.ensures.needed c.in_ok-rows.ensures.rows c.requires.few c.requires.few_sinks
 
 pub new-requires-in-refining-clause-sized : goal.new-requires-in-refining-clause-sized
 new-requires-in-refining-clause-sized c = rows_sized c.args.ordered.now.net c.args.watch.now c.in_ok-rows.rows c.in_ok-rows.ensures.reads c.in_ok-rows.ensures.needed c.args.ordered.now.sequence (length c.args.start.now.parts) c.args.start.now c.requires.cut

@@ -3,7 +3,7 @@ use Rattle.std.specs.List.{list_all}
 use Rattle.ground_net.specs.declared.ground.Ground.{Ground}
 use Rattle.ground_net.specs.Grounds.{mentions, joined}
 use Rattle.ground_net.specs.Statements.{all_hold}
-use Rattle.net_meaning.specs.StatementShapes.{is_condition}
+use Rattle.ground_net.specs.StatementShapes.{is_condition}
 use Rattle.expand_whens.specs.Ways.{none_hold, IsBit}
 use Rattle.expand_whens.proofs.guard.closed.Given as goal
 

@@ -1,6 +1,6 @@
 use Rattle.std.proofs.Common.{◌∙◌, ap}
 use Rattle.std.specs.List.{list_all}
-use Rattle.net_meaning.specs.StatementShapes.{is_condition}
+use Rattle.ground_net.specs.StatementShapes.{is_condition}
 use Rattle.expand_whens.specs.Ways.{asked_fits}
 use Rattle.expand_whens.proofs.Guards.{asked_more, conditions_none, condition_more, conditions_all, tests_more, all_taken}
 use Rattle.expand_whens.proofs.guard.guard_of.Goals as goal

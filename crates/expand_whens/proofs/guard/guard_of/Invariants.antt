@@ -2,8 +2,8 @@ use Rattle.std.proofs.Common.{◌≡◌, ◌++◌, ◌&&◌, map, take, true}
 use Rattle.std.specs.List.{list_all}
 use Rattle.ground_net.specs.Grounds.{mentions, joined}
 use Rattle.ground_net.specs.Statements.{all_hold}
-use Rattle.net_meaning.specs.Shapes.{Table}
-use Rattle.net_meaning.specs.StatementShapes.{is_condition}
+use Rattle.ground_net.specs.Shapes.{Table}
+use Rattle.ground_net.specs.StatementShapes.{is_condition}
 use Rattle.expand_whens.specs.Ways.{crossed, crossed_mentions, asked_fits, part_fits, IsPart}
 use Rattle.expand_whens.proofs.guard.guard_of.Given as goal
 

@@ -1,6 +1,6 @@
 use Rattle.std.proofs.lemmas.Result.{err_from_is_err_and}
 use Rattle.std.proofs.Common.{◌∙◌}
-use Rattle.line_parser.proofs.Joins.{joins_on, first, later_on}
+use Rattle.fir_parser.proofs.Joins.{joins_on, first, later_on}
 use Rattle.fir_parser.proofs.module.read_headed.Goals as goal
 
 pub returns-in_err-name : goal.returns-in_err-name

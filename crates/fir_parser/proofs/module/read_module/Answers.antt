@@ -1,6 +1,6 @@
 use Rattle.std.proofs.lemmas.Result.{err_from_is_err_and}
 use Rattle.fir_grammar.specs.Grammar.{a_module}
-use Rattle.line_parser.proofs.Joins.{makes_on, breaks}
+use Rattle.fir_parser.proofs.Joins.{makes_on, breaks}
 use Rattle.fir_parser.proofs.Modules.{into_plain_module}
 use Rattle.fir_parser.proofs.module.read_module.Goals as goal
 

@@ -1,10 +1,10 @@
 use Rattle.std.proofs.lemmas.Result.{err_from_is_err_and}
 use Rattle.std.proofs.Common.{refl}
-use Rattle.line_parser.proofs.Joins.{closes_again, first, later_on, makes_on, breaks}
+use Rattle.fir_parser.proofs.Joins.{closes_again, first, later_on, makes_on, breaks}
 use Rattle.fir_grammar.specs.Grammar.{a_module_body, no_module_body}
-use Rattle.line_parser.proofs.Entering.{enters_open}
+use Rattle.fir_parser.proofs.Entering.{enters_open}
 use Rattle.fir_parser.proofs.Modules.{into_no_module_body}
-use Rattle.line_parser.proofs.Joins.{nothing_passed}
+use Rattle.fir_parser.proofs.Joins.{nothing_passed}
 use Rattle.fir_parser.proofs.module.read_module_body.Goals as goal
 
 pub returns-in_err-take_open : goal.returns-in_err-take_open

@@ -1,8 +1,8 @@
 use Rattle.std.proofs.lemmas.Result.{err_from_is_err_and}
 use Rattle.std.proofs.Common.{◌∙◌}
-use Rattle.line_parser.proofs.Joins.{ends_block}
-use Rattle.line_parser.proofs.Steps.{refuses_memory}
-use Rattle.line_parser.proofs.Loops.{smaller}
+use Rattle.fir_parser.proofs.Joins.{ends_block}
+use Rattle.fir_parser.proofs.Steps.{refuses_memory}
+use Rattle.fir_parser.proofs.Loops.{smaller}
 use Rattle.fir_parser.proofs.Modules.{module_moves, module_refused, modules_close_refused, modules_closed, more_modules}
 use Rattle.fir_parser.proofs.module.read_modules.Goals as goal
 

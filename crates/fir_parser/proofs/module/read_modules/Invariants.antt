@@ -1,7 +1,7 @@
 use Rattle.std.proofs.Common.{◌≡◌, ◌-◌, length, ◌++◌}
 use Rattle.fir_grammar.specs.Grammar.{Modules}
-use Rattle.line_parser.specs.Taking.{StandsAt, blocks_at}
-use Rattle.line_parser.proofs.Loops.{Continues}
+use Rattle.fir_parser.specs.Taking.{StandsAt, blocks_at}
+use Rattle.fir_parser.proofs.Loops.{Continues}
 use Rattle.fir_parser.proofs.module.read_modules.Given as goal
 
 abbrev pub invariant-loop-alloc : goal.invariant-loop-alloc

@@ -1,5 +1,5 @@
 use Rattle.std.proofs.lemmas.Result.{err_from_is_err_and}
-use Rattle.line_parser.proofs.Joins.{joins_on, first, later_on}
+use Rattle.fir_parser.proofs.Joins.{joins_on, first, later_on}
 use Rattle.fir_parser.proofs.module.read_port.Goals as goal
 
 pub returns-in_err-port : goal.returns-in_err-port

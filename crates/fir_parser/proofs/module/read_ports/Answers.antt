@@ -1,9 +1,9 @@
 use Rattle.std.proofs.lemmas.Result.{err_from_is_err_and}
 use Rattle.std.proofs.Common.{refl, ◌∙◌, [], ◌∷◌}
 use Rattle.fir_grammar.specs.Grammar.{A, Port, line_end}
-use Rattle.line_parser.proofs.Joins.{ends_block}
-use Rattle.line_parser.proofs.Steps.{refuses_memory}
-use Rattle.line_parser.proofs.Loops.{smaller, moves}
+use Rattle.fir_parser.proofs.Joins.{ends_block}
+use Rattle.fir_parser.proofs.Steps.{refuses_memory}
+use Rattle.fir_parser.proofs.Loops.{smaller, moves}
 use Rattle.fir_parser.proofs.Modules.{more_ports, port_refused, ports_end, body_refused}
 use Rattle.fir_parser.proofs.module.read_ports.Goals as goal
 

@@ -1,7 +1,7 @@
 use Rattle.std.proofs.Common.{◌≡◌, ◌-◌, length, ◌++◌}
 use Rattle.fir_grammar.specs.Grammar.{Ports}
-use Rattle.line_parser.specs.Taking.{StandsAt, blocks_at}
-use Rattle.line_parser.proofs.Loops.{Continues}
+use Rattle.fir_parser.specs.Taking.{StandsAt, blocks_at}
+use Rattle.fir_parser.proofs.Loops.{Continues}
 use Rattle.fir_parser.proofs.module.read_ports.Given as goal
 
 abbrev pub invariant-loop-reader : goal.invariant-loop-reader

@@ -1,7 +1,7 @@
 use Rattle.std.proofs.lemmas.Result.{err_from_is_err_and}
 use Rattle.std.proofs.Common.{◌∙◌}
 use Rattle.fir_grammar.specs.Grammar.{a_public_module}
-use Rattle.line_parser.proofs.Joins.{joins_on, first, later_on, makes_on, breaks}
+use Rattle.fir_parser.proofs.Joins.{joins_on, first, later_on, makes_on, breaks}
 use Rattle.fir_parser.proofs.Modules.{into_public_module}
 use Rattle.fir_parser.proofs.module.read_public.Goals as goal
 

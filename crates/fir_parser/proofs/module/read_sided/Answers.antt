@@ -1,6 +1,6 @@
 use Rattle.std.proofs.lemmas.Result.{err_from_is_err_and}
 use Rattle.std.proofs.Common.{not}
-use Rattle.line_parser.proofs.Joins.{makes_on, breaks}
+use Rattle.fir_parser.proofs.Joins.{makes_on, breaks}
 use Rattle.fir_parser.proofs.Modules.{side_case, enters_side, side_port}
 use Rattle.fir_parser.proofs.module.read_sided.Goals as goal
 

@@ -1,6 +1,6 @@
 use Rattle.std.proofs.lemmas.Result.{err_from_is_err_and}
 use Rattle.std.proofs.Common.{◌∙◌}
-use Rattle.line_parser.proofs.Joins.{joins, first, later}
+use Rattle.fir_parser.proofs.Joins.{joins, first, later}
 use Rattle.fir_parser.proofs.Texts.{nothing_behind}
 use Rattle.fir_parser.proofs.parser.read_circuit.Goals as goal
 

@@ -2,7 +2,7 @@ use Rattle.std.proofs.lemmas.Result.{err_from_is_err_and}
 use Rattle.std.proofs.Common.{◌≡◌, ◌∙◌, ap, arith}
 use Rattle.fir_grammar.specs.Grammar.{a_text}
 use Rattle.fir_grammar.specs.Faults.{Levels}
-use Rattle.line_parser.proofs.Joins.{joins, first, later, breaks}
+use Rattle.fir_parser.proofs.Joins.{joins, first, later, breaks}
 use Rattle.fir_parser.proofs.Texts.{Sets, stands_set, here_set, refused_set, text_read, enters_text, refused_text, without_words, with_version, at_three, text_shallow, version_fault}
 use Rattle.fir_parser.proofs.parser.read_text.Goals as goal
 

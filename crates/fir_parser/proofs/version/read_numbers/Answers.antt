@@ -1,5 +1,5 @@
 use Rattle.std.proofs.lemmas.Result.{err_from_is_err_and}
-use Rattle.line_parser.proofs.Joins.{joins_on, first, later_on}
+use Rattle.fir_parser.proofs.Joins.{joins_on, first, later_on}
 use Rattle.fir_parser.proofs.version.read_numbers.Goals as goal
 
 pub returns-in_err-take_next_number : goal.returns-in_err-take_next_number

@@ -1,5 +1,5 @@
 use Rattle.std.proofs.lemmas.Result.{err_from_is_err_and}
-use Rattle.line_parser.proofs.Joins.{joins_on, first, later_on}
+use Rattle.fir_parser.proofs.Joins.{joins_on, first, later_on}
 use Rattle.std.proofs.Common.{arith}
 use Rattle.fir_parser.proofs.Texts.{no_second, one_step}
 use Rattle.fir_parser.proofs.version.read_words.Goals as goal

@@ -1,6 +1,6 @@
 use Rattle.fir_layout.specs.declared.laid.Laid.TheVariants.{Item}
 use Rattle.fir_grammar.specs.Grammar.{Nothing, A_number}
-use Rattle.line_parser.proofs.Steps.{refuses, not_met}
+use Rattle.fir_parser.proofs.Steps.{refuses, not_met}
 use Rattle.fir_parser.proofs.Dotted.{number_met}
 use Rattle.fir_parser.proofs.version.step_number.Goals as goal
 

@@ -1,5 +1,5 @@
 use Rattle.fir_grammar.specs.Grammar.{A_number}
-use Rattle.line_parser.proofs.Steps.{not_met}
+use Rattle.fir_parser.proofs.Steps.{not_met}
 use Rattle.fir_parser.proofs.Dotted.{version_absent, other_version, major_taken, major_stands, major_blocks, major_suffixes}
 use Rattle.fir_parser.proofs.version.take_major.Goals as goal
 

@@ -1,5 +1,5 @@
 use Rattle.std.proofs.lemmas.Result.{err_from_is_err_and}
-use Rattle.line_parser.proofs.Joins.{first, later}
+use Rattle.fir_parser.proofs.Joins.{first, later}
 use Rattle.fir_parser.proofs.Dotted.{next_number, stands_next_number, blocks_next_number, suffixes_next_number, dot_taken}
 use Rattle.fir_parser.proofs.version.take_next_number.Goals as goal
 

@@ -4,8 +4,8 @@ use Rattle.std.proofs.lemmas.Grind.{common_steps}
 use Rattle.fir_tree.specs.declared.circuit.Circuit.{Circuit}
 use Rattle.fir_tree.specs.declared.circuit.Module.{Module}
 use Rattle.lower_aggregates.proofs.Circuits.{stands_next}
-use Rattle.item_leaves.specs.declared.table.Row.{Row}
-use Rattle.item_leaves.specs.Tables.{AreRowsAt}
+use Rattle.found_items.specs.declared.table.Row.{Row}
+use Rattle.found_items.specs.Tables.{AreRowsAt}
 use Rattle.found_items.proofs.Rows.{all_more, longer}
 use Rattle.found_items.proofs.finding.rows_of.Goals as goal
 

@@ -1,8 +1,8 @@
 use Rattle.std.proofs.Common.{◌≡◌, ℕ, List, length}
 use Rattle.std.specs.Prelude.{slice_get, Some}
 use Rattle.lower_aggregates.specs.Circuits.{StandsFrom}
-use Rattle.item_leaves.specs.declared.table.Row.{Row}
-use Rattle.item_leaves.specs.Tables.{AreRowsAt}
+use Rattle.found_items.specs.declared.table.Row.{Row}
+use Rattle.found_items.specs.Tables.{AreRowsAt}
 use Rattle.found_items.proofs.finding.rows_of.Given as goal
 
 abbrev pub invariant-loop-number : goal.invariant-loop-number

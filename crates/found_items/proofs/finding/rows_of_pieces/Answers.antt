@@ -3,7 +3,7 @@ use Rattle.std.proofs.lemmas.List.{take_more, map-append}
 use Rattle.lower_aggregates.specs.declared.pieces.Piece.{Piece}
 use Rattle.lower_aggregates.specs.Parts.{Part}
 use Rattle.lower_aggregates.specs.Held.{held_part}
-use Rattle.item_leaves.proofs.Lists.{zip_push}
+use Rattle.found_items.proofs.Lists.{zip_push}
 use Rattle.found_items.specs.PieceRows.{IsRowOf, AreRowsOf}
 use Rattle.found_items.proofs.finding.rows_of_pieces.Goals as goal
 

@@ -1,8 +1,8 @@
 use Rattle.std.proofs.Common.{◌∙◌, ap}
 use Rattle.bit_words.specs.Values.{bits_of}
 use Rattle.bit_words.specs.Numbers.{integer_of_number}
-use Rattle.cycle_values.specs.Values.{fitted}
-use Rattle.cycle_values.proofs.Fittings.{same_value, min_small}
+use Rattle.prim_ops.specs.Values.{fitted}
+use Rattle.prim_ops.proofs.Fittings.{same_value, min_small}
 use Rattle.ground_exprs.proofs.constants.constant.Goals as goal
 
 pub returns : goal.returns

@@ -3,7 +3,7 @@ use Rattle.fir_tree.specs.declared.expr.Expr.{the_lemmas}
 use Rattle.std.specs.Prelude.{IsSome}
 use Rattle.std.specs.List.{list_all}
 use Rattle.fir_meaning.specs.WellTyped.{typed}
-use Rattle.net_meaning.specs.Shapes.{shape_of_row}
+use Rattle.ground_net.specs.Shapes.{shape_of_row}
 use Rattle.ground_exprs.specs.Sources.{known_of, told, is_lone, IsLowered, AreOperands, Leads}
 use Rattle.ground_exprs.proofs.Lists.{item_there}
 use Rattle.ground_exprs.proofs.Lowered.{leads_whole, leads_more, step_typed, name_known, steps_field, steps_at, steps_index, at_asked, index_asked, unsigned_some, unsigned_lone}

@@ -3,7 +3,7 @@ use Rattle.std.proofs.lemmas.List.{length-map}
 use Rattle.prim_ops.specs.declared.widths.Width.TheVariants.{Bits}
 use Rattle.prim_ops.specs.Kinds.{row_kind}
 use Rattle.prim_ops.specs.Widths.{row_width, width_number}
-use Rattle.net_meaning.specs.Shapes.{shaped}
+use Rattle.ground_net.specs.Shapes.{shaped}
 use Rattle.ground_exprs.specs.declared.source.Source.{Source}
 use Rattle.ground_exprs.proofs.Operations.{kinds_in, widths_in, row_of, row_bits}
 use Rattle.ground_exprs.proofs.operation.operation.Goals as goal

@@ -1,6 +1,6 @@
 use Rattle.std.proofs.Common.{◌≡◌, ◌*◌, ◌≤◌, map, take}
-use Rattle.net_meaning.specs.Nets.{element_shape}
-use Rattle.net_meaning.specs.Words.{count_words}
+use Rattle.ground_net.specs.Nets.{element_shape}
+use Rattle.ground_net.specs.Words.{count_words}
 use Rattle.memory_ports.proofs.memories.element_words.Given as goal
 
 abbrev pub invariant-loop-element : goal.invariant-loop-element

@@ -1,6 +1,6 @@
 use Rattle.std.proofs.Common.{◌≡◌, ◌+◌, ℕ, map, take, slice_get, Some, sum_by}
 use Rattle.ground_net.specs.declared.net.NetMemory.{NetMemory}
-use Rattle.net_meaning.specs.Words.{memory_words}
+use Rattle.ground_net.specs.Words.{memory_words}
 use Rattle.memory_ports.specs.Placing.{without_word}
 use Rattle.memory_ports.proofs.memories.placed_memories.Given as goal
 

@@ -1,6 +1,6 @@
 use Rattle.std.proofs.Common.{◌≡◌, ◌*◌, ◌≤◌, map, take, slice_get}
-use Rattle.net_meaning.specs.Nets.{shape_or_none}
-use Rattle.net_meaning.specs.Words.{count_words}
+use Rattle.ground_net.specs.Nets.{shape_or_none}
+use Rattle.ground_net.specs.Words.{count_words}
 use Rattle.memory_ports.proofs.memories.register_words.Given as goal
 
 abbrev pub invariant-loop-register : goal.invariant-loop-register

@@ -1,7 +1,7 @@
 use Rattle.std.proofs.Common.{rules, sym, subst}
 use Rattle.std.specs.Prelude.{All}
 use Rattle.std.proofs.lemmas.List.Elements.{All-push}
-use Rattle.type_classes.specs.Sights.{table_of}
+use Rattle.type_index.specs.Sights.{table_of}
 use Rattle.module_table.specs.declared.modules.Instance.{Instance}
 use Rattle.module_table.specs.Tables.{IsInstance}
 use Rattle.module_table.proofs.Indexing.{instances_more}

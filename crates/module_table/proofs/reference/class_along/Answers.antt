@@ -1,6 +1,6 @@
 use Rattle.std.proofs.Common.{refl, subst}
 use Rattle.std.proofs.lemmas.List.{take_all}
-use Rattle.type_classes.specs.Sights.{table_of}
+use Rattle.type_index.specs.Sights.{table_of}
 use Rattle.module_table.specs.Leading.{ClassAlong}
 use Rattle.module_table.proofs.Leading.{along_more}
 use Rattle.module_table.proofs.reference.class_along.Goals as goal

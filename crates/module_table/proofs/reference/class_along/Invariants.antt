@@ -1,7 +1,7 @@
 use Rattle.std.proofs.Common.{take}
 use Rattle.fir_types.specs.declared.fir_type.FirType.{FirType}
-use Rattle.type_classes.specs.Numbers.{HasNumber}
-use Rattle.type_classes.specs.Sights.{table_of}
+use Rattle.type_index.specs.Numbers.{HasNumber}
+use Rattle.type_index.specs.Sights.{table_of}
 use Rattle.module_table.specs.Leading.{ClassAlong}
 use Rattle.module_table.proofs.reference.class_along.Given as goal
 

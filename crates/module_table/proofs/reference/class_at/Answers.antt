@@ -1,5 +1,5 @@
 use Rattle.std.proofs.Common.{rules}
-use Rattle.type_classes.specs.Sights.{table_of}
+use Rattle.type_index.specs.Sights.{table_of}
 use Rattle.module_table.proofs.Leading.{leads_class}
 use Rattle.module_table.proofs.reference.class_at.Goals as goal
 

@@ -1,5 +1,5 @@
 use Rattle.std.proofs.Common.{inl, inr}
-use Rattle.type_classes.specs.Sights.{table_of}
+use Rattle.type_index.specs.Sights.{table_of}
 use Rattle.module_table.proofs.Leading.{field_behind, element_behind}
 use Rattle.module_table.proofs.reference.class_behind.Goals as goal
 

@@ -1,5 +1,5 @@
 use Rattle.std.proofs.Common.{◌≡◌, ◌++◌, take, map, pos}
-use Rattle.cycle_values.specs.Values.{fitted}
+use Rattle.prim_ops.specs.Values.{fitted}
 use Rattle.net_run.proofs.beginning.push_element.Given as goal
 
 abbrev pub invariant-loop-leaf : goal.invariant-loop-leaf

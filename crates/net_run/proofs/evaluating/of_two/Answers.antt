@@ -1,5 +1,5 @@
 use Rattle.std.proofs.Common.{[], ◌∷◌}
-use Rattle.cycle_values.proofs.Fittings.{result_is}
+use Rattle.prim_ops.proofs.Fittings.{result_is}
 use Rattle.net_run.proofs.evaluating.of_two.Goals as goal
 
 pub returns : goal.returns

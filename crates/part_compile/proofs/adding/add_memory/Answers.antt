@@ -1,10 +1,10 @@
 use Rattle.std.proofs.Common.{refl, subst, arith}
 use Rattle.ground_net.specs.Cones.{A_memory}
-use Rattle.code_registers.specs.Groups.{EvaluatesOnly}
+use Rattle.code_memories.specs.SinkGroups.{EvaluatesOnly}
 use Rattle.code_memories.specs.Groups.{IsMemoryGroup}
-use Rattle.code_parts.proofs.Places.{memory_place}
-use Rattle.code_parts.proofs.Shaping.{one_has_words}
-use Rattle.code_parts.proofs.Making.{kept_adds}
+use Rattle.part_compile.proofs.Places.{memory_place}
+use Rattle.part_compile.proofs.Shaping.{one_has_words}
+use Rattle.part_compile.proofs.Making.{kept_adds}
 use Rattle.part_compile.proofs.Keeping.{has_memory}
 use Rattle.part_compile.proofs.OneByOne.{memory_tells}
 use Rattle.part_compile.proofs.adding.add_memory.Goals as goal

@@ -2,7 +2,7 @@ use Rattle.std.proofs.Common.{◌≡◌, slice_get, Some, sym, subst}
 use Rattle.std.specs.Prelude.{OnOk}
 use Rattle.ground_net.specs.Cones.{sinks}
 use Rattle.cone_cutter.specs.Rows.{sink_of}
-use Rattle.code_parts.specs.PartRows.{Adds}
+use Rattle.part_compile.specs.PartRows.{Adds}
 use Rattle.part_compile.specs.Rows.{KnowsCone}
 use Rattle.part_compile.specs.Telling.{EvaluatesSink}
 use Rattle.part_compile.proofs.adding.add_sink.Goals as goal

@@ -4,8 +4,8 @@ use Rattle.std.proofs.lemmas.Option.{slice_get_read}
 use Rattle.ground_net.specs.Cones.{sinks}
 use Rattle.cone_cutter.specs.declared.sinks.SinkAt.{SinkAt}
 use Rattle.cone_cutter.specs.Rows.{sink_of}
-use Rattle.code_parts.specs.PartRows.{SoFar}
-use Rattle.code_parts.proofs.Making.{none_so_far}
+use Rattle.part_compile.specs.PartRows.{SoFar}
+use Rattle.part_compile.proofs.Making.{none_so_far}
 use Rattle.part_compile.proofs.OneByOne.{sink_there, number_within, part_has, cone_known, ready_so_far, sinks_more}
 use Rattle.part_compile.proofs.Filtered.{to_filter}
 use Rattle.part_compile.proofs.Told.{told_none, told_more}

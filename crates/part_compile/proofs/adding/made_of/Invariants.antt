@@ -1,5 +1,5 @@
 use Rattle.std.proofs.Common.{take}
-use Rattle.code_parts.specs.PartRows.{SoFar}
+use Rattle.part_compile.specs.PartRows.{SoFar}
 use Rattle.part_compile.specs.Telling.{TellsInPieces}
 use Rattle.part_compile.proofs.adding.made_of.Given as goal
 

@@ -1,9 +1,10 @@
-use Rattle.std.proofs.Common.{◌≡◌, ◌+◌, ◌<◌, length, take, slice_get, Some, sym, subst, ap, ◌∙◌, arith}
+use Rattle.std.proofs.Common.{◌≡◌, ◌+◌, ◌<◌, length, map, take, slice_get, Some, sym, subst, ap, ◌∙◌, arith}
 use Rattle.std.proofs.lemmas.List.{take_all}
 use Rattle.std.proofs.lemmas.Option.{slice_get-get_or}
+use Rattle.cone_cutter.specs.Rows.{sink_of}
 use Rattle.partition_code.specs.Codes.{AreCodesOf}
 use Rattle.part_compile.proofs.Driving.{placed_few}
-use Rattle.code_parts.proofs.Placed.{placed_is_code}
+use Rattle.part_compile.proofs.Placed.{placed_is_code}
 use Rattle.part_compile.specs.Frames.{TakesFewSlots, TakeFewSlots}
 use Rattle.part_compile.proofs.Composing.{have_drivers, codes_none, codes_more, few_none, few_more}
 use Rattle.part_compile.proofs.Rooming.{room_fits}
@@ -22,6 +23,12 @@ code_of-requires-clause-part c =
     let below : i < length xs = omega (arith, test) in
     let there : slice_get parts i ≡ Some part = ap (λ l. slice_get l i) (sym c.as_slice-part-items.ensures) ∙ (slice_get-get_or xs i part below ∙ ap Some (sym c.part-item.is)) in
     record { sequence = c.args.ordered.now.sequence; order = c.requires.order; union = c.requires.split.unions i part there }
+
+pub code_of-requires-clause-sinks : goal.code_of-requires-clause-sinks
+code_of-requires-clause-sinks c = ap (map sink_of) c.as_slice-sinks.ensures.value ∙ c.in_ok-rows.ensures.sinks
+
+pub room_of-requires : goal.room_of-requires
+room_of-requires c = record { rows = record { are = c.in_ok-rows.ensures.rows; of_sinks = c.in_ok-rows.ensures.sinks; reads = c.in_ok-rows.ensures.reads; needed = c.in_ok-rows.ensures.needed } }
 
 pub loop-part-preserved : goal.loop-part-preserved
 loop-part-preserved c =

@@ -1,6 +1,6 @@
 use Rattle.std.proofs.Common.{◌≡◌, ◌*◌, ◌-◌, ◌+◌, ◌≤◌, length, slice_get, Some, sym, ap, ◌∙◌, arith}
 use Rattle.std.specs.Option.{option_copied}
-use Rattle.code_parts.proofs.Rowed.{last_words}
+use Rattle.part_compile.proofs.Rowed.{last_words}
 use Rattle.part_compile.proofs.StateWords.{registers_alone, behind_last, none_past}
 use Rattle.part_compile.proofs.counting.behind_memories.Goals as goal
 

@@ -4,9 +4,9 @@ use Rattle.flat_code.specs.Codes.{published_by}
 use Rattle.flat_code.specs.Fine.{nothing}
 use Rattle.flat_code.specs.Orders.{Single}
 use Rattle.code_emit.specs.Emits.{sources_table}
-use Rattle.code_sequence.specs.Sequences.{InTurn, StandElsewhere, turned_table}
-use Rattle.code_sequence.specs.Segmented.{AreSegments}
-use Rattle.code_parts.proofs.Turning.{part_turn}
+use Rattle.partition_code.specs.Sequences.{InTurn, StandElsewhere, turned_table}
+use Rattle.partition_code.specs.Segmented.{AreSegments}
+use Rattle.part_compile.proofs.InTurn.{part_turn}
 use Rattle.part_compile.proofs.Keeping.{are_kept}
 use Rattle.part_compile.proofs.Composing.{at_both, reads_long, words_counted, registers_counted, registers_first, are_assignments, all_within, goes_on, is_work, code_is}
 use Rattle.part_compile.proofs.Framing.{code_in_pieces}

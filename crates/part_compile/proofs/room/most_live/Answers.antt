@@ -1,4 +1,8 @@
 use Rattle.std.proofs.Common.{◌≡◌, ◌+◌, ◌-◌, ◌<◌, length, slice_index, sym, subst, ap, arith}
+use Rattle.ground_net.specs.Reads.{direct_reads}
+use Rattle.cone_cutter.specs.Rows.{row_at, reads_in}
+use Rattle.part_compile.proofs.Marks.{reads_within}
+use Rattle.part_compile.proofs.Rows.{read_of_row}
 use Rattle.part_compile.proofs.Walking.{CountsAt, counted_live, more_live, stepped}
 use Rattle.part_compile.proofs.room.most_live.Goals as goal
 
@@ -17,7 +21,8 @@ loop-at-preserved c =
     let here : CountsAt net watch part ((c.loop-at.at - 1) + 1) c.loop-at.live = subst (λ k. CountsAt net watch part k c.loop-at.live) (sym one) had.1.0 in (
       more_live net watch part c.loop-at.live.count c.loop-at.most c.max-most.result (counted_live net watch part at c.loop-at.live had.1.0) had.0 (omega (arith, most)),
       (
-        stepped net watch part (at - 1) _ c.loop-at.live c.pass_leaf.new.live c.read_assignment.new.live below (ap (λ xs. slice_index xs (c.loop-at.at - 1)) c.as_slice-assignments.ensures) c.pass_leaf.ensures c.read_assignment.ensures here,
+        stepped net watch part (at - 1) _ c.loop-at.live c.pass_leaf.new.live c.read_assignment.new.live below (ap (λ xs. slice_index xs (c.loop-at.at - 1)) c.as_slice-assignments.ensures) c.pass_leaf.ensures
+            (reads_within (row_at (reads_in c.args.rows.now) _) (direct_reads net _) c.pass_leaf.new.live c.read_assignment.new.live (read_of_row net (reads_in c.args.rows.now) c.requires.rows.reads _) c.read_assignment.ensures) here,
         omega (arith, long),
       ),
     )

@@ -1,6 +1,6 @@
 use Rattle.std.proofs.Common.{◌≡◌, ◌∙◌, sym, ap, true}
-use Rattle.cycle_values.specs.Values.{lone}
-use Rattle.cycle_values.specs.Values.{is_one as is_one_value}
+use Rattle.prim_ops.specs.Values.{lone}
+use Rattle.prim_ops.specs.Values.{is_one as is_one_value}
 use Rattle.plain_values.specs.Sites.{scene_of_view}
 use Rattle.plain_values.specs.Choosing.{is_taken}
 use Rattle.plain_values.proofs.Statements.{there}

@@ -3,8 +3,8 @@ use Rattle.std.specs.List.{list_all}
 use Rattle.std.specs.Option.{option_copied}
 use Rattle.fir_tree.specs.declared.expr.Expr.{the_lemmas}
 use Rattle.bit_words.specs.declared.value.Kind.TheVariants.{Unsigned}
-use Rattle.cycle_values.specs.Values.{operation, lone}
-use Rattle.cycle_values.specs.Values.{is_one as is_one_value}
+use Rattle.prim_ops.specs.Values.{operation, lone}
+use Rattle.prim_ops.specs.Values.{is_one as is_one_value}
 use Rattle.fir_meaning.specs.WellTyped.{typed, is_typed}
 use Rattle.fir_meaning.specs.Values.{value, chosen}
 use Rattle.bit_words.specs.declared.value.Value.{Value}

@@ -1,6 +1,6 @@
 use Rattle.std.proofs.Common.{rules, ◌≡◌, ◌+◌, ◌++◌, ◌∷◌, [], map, take, ap, ◌∙◌, Some}
 use Rattle.std.proofs.lemmas.List.{map-append}
-use Rattle.reset_feeds.specs.Feeds.{known_with}
+use Rattle.reset_search.specs.Feeds.{known_with}
 use Rattle.reset_resolution.specs.Walked.{ported}
 use Rattle.reset_resolution.proofs.Ported.{instances_next, next}
 use Rattle.reset_resolution.proofs.gathering.instances_of.Goals as goal

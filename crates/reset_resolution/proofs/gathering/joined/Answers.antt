@@ -1,7 +1,7 @@
 use Rattle.std.proofs.Common.{◌≡◌, ap, ◌∙◌, take, arith, List}
 use Rattle.std.proofs.lemmas.Grind.{common_steps}
 use Rattle.std.specs.List.{flat_map}
-use Rattle.reset_feeds.specs.declared.spot.Spot.{Spot}
+use Rattle.reset_search.specs.declared.spot.Spot.{Spot}
 use Rattle.reset_resolution.proofs.gathering.joined.Goals as goal
 
 pub returns : goal.returns

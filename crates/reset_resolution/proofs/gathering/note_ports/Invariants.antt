@@ -1,6 +1,6 @@
 use Rattle.std.proofs.Common.{◌≡◌, ◌+◌, ◌++◌, map, take, drop}
 use Rattle.std.specs.Vec.Iter.{into_iter_items}
-use Rattle.reset_feeds.specs.Feeds.{known_ports}
+use Rattle.reset_search.specs.Feeds.{known_ports}
 use Rattle.reset_resolution.proofs.gathering.note_ports.Given as goal
 
 abbrev pub invariant-loop-port : goal.invariant-loop-port

@@ -1,5 +1,5 @@
 use Rattle.std.proofs.Common.{◌≡◌, ◌+◌, ◌++◌, map, take, drop}
-use Rattle.reset_feeds.specs.Feeds.{ports_from, ports_count}
+use Rattle.reset_search.specs.Feeds.{ports_from, ports_count}
 use Rattle.reset_resolution.proofs.gathering.ports_of.Given as goal
 
 abbrev pub invariant-loop-port : goal.invariant-loop-port

@@ -1,5 +1,5 @@
 use Rattle.std.proofs.Common.{◌≡◌, ◌+◌, ◌++◌, map, take, drop}
-use Rattle.reset_feeds.specs.Feeds.{ports_asyncs}
+use Rattle.reset_search.specs.Feeds.{ports_asyncs}
 use Rattle.reset_resolution.proofs.gathering.push_port_asyncs.Given as goal
 
 abbrev pub invariant-loop-port : goal.invariant-loop-port

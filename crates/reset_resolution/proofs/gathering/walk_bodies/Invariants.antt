@@ -1,6 +1,6 @@
 use Rattle.std.proofs.Common.{◌≡◌, ◌+◌, ◌++◌, map, take, drop}
 use Rattle.std.specs.Vec.Iter.{into_iter_items}
-use Rattle.reset_feeds.specs.Feeds.{bodies_from}
+use Rattle.reset_search.specs.Feeds.{bodies_from}
 use Rattle.reset_resolution.specs.Walked.{listed, ported}
 use Rattle.reset_resolution.proofs.gathering.walk_bodies.Given as goal
 

@@ -1,5 +1,5 @@
 use Rattle.std.proofs.Common.{◌≡◌, ◌+◌, ◌++◌, map, take, drop}
-use Rattle.reset_feeds.specs.Feeds.{modules_from, all_ports}
+use Rattle.reset_search.specs.Feeds.{modules_from, all_ports}
 use Rattle.reset_resolution.specs.Walked.{ported}
 use Rattle.reset_resolution.proofs.gathering.with_ports.Given as goal
 

@@ -1,6 +1,6 @@
 use Rattle.std.proofs.Common.{◌≡◌, ◌≤◌, map, drop}
 use Rattle.fir_types.specs.declared.fir_type.FirType.{size-FirType}
-use Rattle.reset_feeds.specs.Grounds.{are_alike, all_take}
+use Rattle.reset_search.specs.Grounds.{are_alike, all_take}
 use Rattle.reset_resolution.specs.Layers.{field_alike}
 use Rattle.reset_resolution.proofs.grounds.+alike.Given as goal
 

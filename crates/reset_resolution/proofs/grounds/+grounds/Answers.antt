@@ -3,7 +3,7 @@ use Rattle.std.specs.Prelude.{nat_lt}
 use Rattle.std.specs.Bool.{beq}
 use Rattle.std.proofs.lemmas.Grind.{common_steps}
 use Rattle.fir_types.proofs.Runs.{element_falls}
-use Rattle.reset_feeds.specs.Grounds.{grounds}
+use Rattle.reset_search.specs.Grounds.{grounds}
 use Rattle.reset_resolution.specs.Layers.{seen}
 use Rattle.reset_resolution.proofs.Types.{grounds-bundle, grounds-vector, seen_within, grounds_more}
 use Rattle.reset_resolution.proofs.grounds.+grounds.Goals as goal

@@ -1,7 +1,7 @@
 use Rattle.std.proofs.Common.{◌≡◌, ◌≤◌, ◌++◌, map, take}
 use Rattle.std.specs.Prelude.{flat_map}
 use Rattle.fir_types.specs.declared.fir_type.FirType.{size-FirType}
-use Rattle.reset_feeds.specs.Grounds.{grounds}
+use Rattle.reset_search.specs.Grounds.{grounds}
 use Rattle.reset_resolution.specs.Layers.{seen, field_grounds}
 use Rattle.reset_resolution.proofs.grounds.+grounds.Given as goal
 

@@ -1,6 +1,6 @@
 use Rattle.std.proofs.Common.{arith}
 use Rattle.std.proofs.lemmas.Grind.{common_steps}
-use Rattle.reset_feeds.specs.Grounds.{grounds}
+use Rattle.reset_search.specs.Grounds.{grounds}
 use Rattle.reset_resolution.proofs.Types.{seen_plain}
 use Rattle.reset_resolution.proofs.grounds.grounds_of.Goals as goal
 

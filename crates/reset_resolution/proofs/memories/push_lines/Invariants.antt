@@ -1,5 +1,5 @@
 use Rattle.std.proofs.Common.{◌≡◌, ◌+◌, ◌++◌, map, take, drop}
-use Rattle.reset_feeds.specs.Feeds.{lines_spots, lines_count}
+use Rattle.reset_search.specs.Feeds.{lines_spots, lines_count}
 use Rattle.reset_resolution.proofs.memories.push_lines.Given as goal
 
 abbrev pub invariant-loop-line : goal.invariant-loop-line

@@ -1,5 +1,5 @@
 use Rattle.std.proofs.Common.{◌≡◌, ◌+◌, ◌++◌, map, take, drop}
-use Rattle.reset_feeds.specs.Feeds.{asyncs_among}
+use Rattle.reset_search.specs.Feeds.{asyncs_among}
 use Rattle.reset_resolution.proofs.ranges.push_asyncs.Given as goal
 
 abbrev pub invariant-loop-ground : goal.invariant-loop-ground

@@ -1,5 +1,5 @@
 use Rattle.std.proofs.Common.{◌≡◌, ◌+◌, ◌++◌, map, take, drop}
-use Rattle.reset_feeds.specs.Feeds.{fed_by}
+use Rattle.reset_search.specs.Feeds.{fed_by}
 use Rattle.reset_resolution.proofs.ranges.push_fed.Given as goal
 
 abbrev pub invariant-loop-source : goal.invariant-loop-source

@@ -1,5 +1,5 @@
 use Rattle.std.proofs.Common.{◌≡◌, ◌+◌, ◌++◌, map, take, drop}
-use Rattle.reset_feeds.specs.Feeds.{node_from}
+use Rattle.reset_search.specs.Feeds.{node_from}
 use Rattle.reset_resolution.proofs.ranges.push_nodes.Given as goal
 
 abbrev pub invariant-loop-offset : goal.invariant-loop-offset

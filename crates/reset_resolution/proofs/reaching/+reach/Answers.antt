@@ -1,7 +1,7 @@
 use Rattle.std.proofs.Common.{rules, arith, ◌≡◌, ap, sym, ◌∙◌, subst, true, false, Some, None, IfOk}
 use Rattle.std.proofs.lemmas.Grind.{common_steps}
 use Rattle.std.specs.Prelude.{option_map}
-use Rattle.reset_feeds.specs.Feeds.{reached_by, reach}
+use Rattle.reset_search.specs.Feeds.{reached_by, reach}
 use Rattle.reset_resolution.specs.Layers.{reached_as}
 use Rattle.reset_resolution.proofs.Expressions.{choice_three, prim_told, reached-mux}
 use Rattle.reset_resolution.proofs.reaching.+reach.Goals as goal

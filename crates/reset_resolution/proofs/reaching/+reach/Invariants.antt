@@ -1,5 +1,5 @@
 use Rattle.std.proofs.Common.{◌≡◌, map, drop}
-use Rattle.reset_feeds.specs.Feeds.{reached_by, signs_of}
+use Rattle.reset_search.specs.Feeds.{reached_by, signs_of}
 use Rattle.reset_resolution.proofs.Ranging.{before}
 use Rattle.reset_resolution.proofs.reaching.+reach.Given as goal
 

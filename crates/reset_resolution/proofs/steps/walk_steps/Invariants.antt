@@ -1,5 +1,5 @@
 use Rattle.std.proofs.Common.{◌≡◌, map, drop, Some}
-use Rattle.reset_feeds.specs.Feeds.{along}
+use Rattle.reset_search.specs.Feeds.{along}
 use Rattle.reset_resolution.specs.Layers.{suffix_step, viewed}
 use Rattle.reset_resolution.proofs.steps.walk_steps.Given as goal
 

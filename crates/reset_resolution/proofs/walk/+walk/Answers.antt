@@ -1,5 +1,5 @@
 use Rattle.std.proofs.Common.{rules}
-use Rattle.reset_feeds.specs.Feeds.{stmt_walk, arm_walk}
+use Rattle.reset_search.specs.Feeds.{stmt_walk, arm_walk}
 use Rattle.reset_resolution.specs.Walked.{listed}
 use Rattle.reset_resolution.proofs.Walking.{walks_push}
 use Rattle.reset_resolution.proofs.walk.+walk.Goals as goal

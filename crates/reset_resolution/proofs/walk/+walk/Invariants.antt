@@ -1,5 +1,5 @@
 use Rattle.std.proofs.Common.{take, map}
-use Rattle.reset_feeds.specs.Feeds.{in_turn, stmt_walk, arm_walk}
+use Rattle.reset_search.specs.Feeds.{in_turn, stmt_walk, arm_walk}
 use Rattle.reset_resolution.specs.Walked.{listed, Walks}
 use Rattle.reset_resolution.proofs.walk.+walk.Given as goal
 

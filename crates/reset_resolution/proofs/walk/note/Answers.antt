@@ -2,7 +2,7 @@ use Rattle.std.proofs.Common.{rules, ◌≡◌, ap, sym, ◌∙◌, nat_eq, if�
 use Rattle.std.specs.Prelude.{Option, None, is_some}
 use Rattle.indexmap.specs.IndexMap.{get}
 use Rattle.indexmap.proofs.CallerLemmas.{insert_entry-new}
-use Rattle.reset_feeds.specs.declared.spot.Reach.{Reach}
+use Rattle.reset_search.specs.declared.spot.Reach.{Reach}
 use Rattle.reset_resolution.proofs.walk.note.Goals as goal
 
 pub returns-in_ok-insert : goal.returns-in_ok-insert

@@ -1,6 +1,6 @@
 use Rattle.std.proofs.Common.{rules, refl, get_or, ap₂, ◌∙◌, ◌++◌, ◌∷◌, [], nat_eq, if◌then◌else◌}
-use Rattle.reset_feeds.specs.declared.spot.Spot.TheVariants.{Cast}
-use Rattle.reset_feeds.specs.Feeds.{feed}
+use Rattle.reset_search.specs.declared.spot.Spot.TheVariants.{Cast}
+use Rattle.reset_search.specs.Feeds.{feed}
 use Rattle.reset_search.specs.Rows.{targets}
 use Rattle.reset_search.proofs.Rowing.{rows_more}
 use Rattle.reset_search.proofs.rows.rows_of.Goals as goal

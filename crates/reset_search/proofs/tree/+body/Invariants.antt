@@ -1,5 +1,5 @@
 use Rattle.std.proofs.Common.{◌≡◌, ◌+◌, ◌++◌, map, drop}
-use Rattle.reset_feeds.specs.Resolved.{becomes_stmt, all_from, in_all}
+use Rattle.reset_search.specs.Resolved.{becomes_stmt, all_from, in_all}
 use Rattle.reset_search.specs.Rows.{marked}
 use Rattle.reset_search.specs.Layers.{arm_becomes}
 use Rattle.reset_search.proofs.tree.+body.Given as goal

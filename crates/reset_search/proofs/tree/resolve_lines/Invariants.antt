@@ -1,5 +1,5 @@
 use Rattle.std.proofs.Common.{◌≡◌, map, take}
-use Rattle.reset_feeds.specs.Resolved.{with_element}
+use Rattle.reset_search.specs.Resolved.{with_element}
 use Rattle.reset_search.specs.Rows.{marked}
 use Rattle.reset_search.proofs.tree.resolve_lines.Given as goal
 

@@ -1,5 +1,5 @@
 use Rattle.std.proofs.Common.{◌≡◌, ◌++◌, drop}
-use Rattle.reset_feeds.specs.Resolved.{resolved_modules}
+use Rattle.reset_search.specs.Resolved.{resolved_modules}
 use Rattle.reset_search.specs.Rows.{marked}
 use Rattle.reset_search.proofs.tree.resolve_modules.Given as goal
 

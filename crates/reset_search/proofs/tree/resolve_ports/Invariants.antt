@@ -1,6 +1,6 @@
 use Rattle.std.proofs.Common.{◌≡◌, ◌+◌, ◌++◌, drop}
-use Rattle.reset_feeds.specs.Feeds.{ports_count}
-use Rattle.reset_feeds.specs.Resolved.{resolved_ports}
+use Rattle.reset_search.specs.Feeds.{ports_count}
+use Rattle.reset_search.specs.Resolved.{resolved_ports}
 use Rattle.reset_search.specs.Rows.{marked}
 use Rattle.reset_search.proofs.tree.resolve_ports.Given as goal
 

@@ -1,5 +1,5 @@
 use Rattle.std.proofs.Common.{◌≡◌, ◌+◌, drop}
-use Rattle.reset_feeds.specs.Feeds.{lines_count}
+use Rattle.reset_search.specs.Feeds.{lines_count}
 use Rattle.reset_search.proofs.tree.skip_lines.Given as goal
 
 abbrev pub invariant-loop-line : goal.invariant-loop-line

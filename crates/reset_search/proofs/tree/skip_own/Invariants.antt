@@ -1,5 +1,5 @@
 use Rattle.std.proofs.Common.{◌≡◌, ◌+◌, drop}
-use Rattle.reset_feeds.specs.Feeds.{ports_count}
+use Rattle.reset_search.specs.Feeds.{ports_count}
 use Rattle.reset_search.proofs.tree.skip_own.Given as goal
 
 abbrev pub invariant-loop-port : goal.invariant-loop-port

@@ -1,5 +1,5 @@
 use Rattle.std.proofs.Common.{◌≡◌, ◌+◌, drop}
-use Rattle.reset_feeds.specs.Feeds.{all_ports}
+use Rattle.reset_search.specs.Feeds.{all_ports}
 use Rattle.reset_search.proofs.tree.skip_ports.Given as goal
 
 abbrev pub invariant-loop-holder : goal.invariant-loop-holder

@@ -1,7 +1,7 @@
 use Rattle.std.proofs.Common.{◌≡◌, ◌≤◌, ◌+◌, ◌++◌, map, drop}
 use Rattle.fir_types.specs.declared.fir_type.FirType.{size-FirType}
 use Rattle.fir_types.specs.Runs.{within}
-use Rattle.reset_feeds.specs.Resolved.{all_from, in_all}
+use Rattle.reset_search.specs.Resolved.{all_from, in_all}
 use Rattle.reset_search.specs.Rows.{marked}
 use Rattle.reset_search.specs.Layers.{field_becomes}
 use Rattle.reset_search.proofs.types.+resolve.Given as goal

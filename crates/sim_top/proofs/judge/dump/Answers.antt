@@ -1,10 +1,14 @@
 use Rattle.std.proofs.Common.{arith}
 use Rattle.asked_texts.specs.Commands.{Vcd}
+use Rattle.sim_top.proofs.Small.{few}
 use Rattle.sim_top.proofs.Judging.{no_trace, dump_unknown, dump_refused, dump_taken, vcd_no_run}
 use Rattle.sim_top.proofs.judge.dump.Goals as goal
 
-pub variables-requires : goal.variables-requires
-variables-requires c = record { seen = c.requires.1.watched }
+pub variables-requires-clause-seen : goal.variables-requires-clause-seen
+variables-requires-clause-seen c = c.requires.1.watched
+
+pub variables-requires-clause-few : goal.variables-requires-clause-few
+variables-requires-clause-few c = few c.accepted_nets_are_small.ensures.leaves c.requires.0 c.args.built c.requires.1
 
 pub returns-in_default-clause-judges : goal.returns-in_default-clause-judges
 returns-in_default-clause-judges c = λ text b.

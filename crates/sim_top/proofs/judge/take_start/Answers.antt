@@ -1,7 +1,7 @@
 use Rattle.std.proofs.Common.{ap, sym, subst, List, ℕ}
 use Rattle.std.specs.Prelude.{Option, Some, None, IfOk, IfErr, option_map}
 use Rattle.snapshot_text.specs.declared.snapshot.Snapshot.{Snapshot}
-use Rattle.state_texts.specs.Held.{IsStartOf}
+use Rattle.circuit_texts.specs.Held.{IsStartOf}
 use Rattle.std.proofs.lemmas.Result.{IfOk-weaker}
 use Rattle.sim_engine.specs.Building.{IsBuilt}
 use Rattle.asked_texts.specs.Commands.{Told, Too_long, text_given}

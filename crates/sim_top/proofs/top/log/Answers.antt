@@ -1,6 +1,7 @@
 use Rattle.std.proofs.Common.{inl, inr, refl}
 use Rattle.sim_engine.proofs.Accepting.{fitted_well_formed}
 use Rattle.sim_top.proofs.Apart.{accepted_items}
+use Rattle.sim_top.proofs.Small.{few}
 use Rattle.sim_top.proofs.Replying.{run_whole, run_cut, log_planned}
 use Rattle.sim_top.proofs.top.log.Goals as goal
 
@@ -26,6 +27,7 @@ simulate_log-requires g c =
           serves = b.ordered.serves;
           planned = log_planned _ _ l;
           said = b.ordered.serves.of.is.words;
+          small = few c.accepted_nets_are_small.ensures.leaves l.text _ b;
           some = c.requires.some;
           few = c.requires.most;
         },

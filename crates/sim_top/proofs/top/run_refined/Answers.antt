@@ -1,9 +1,21 @@
+use Rattle.std.proofs.Common.{◌<◌, ℕ, List, length, subst, sym}
 use Rattle.std.proofs.lemmas.Result.{err_from_is_err_and}
 use Rattle.fir_meaning.specs.Components.{design_of}
 use Rattle.circuit_run.proofs.Writing.{nothing_written}
 use Rattle.crew_run.proofs.Traces.{some_text, trace_of_run}
+use Rattle.ground_net.specs.Cones.{sinks}
+use Rattle.sim_top.proofs.Small.{few, few_sinks}
 use Rattle.sim_top.proofs.Replying.{planned}
 use Rattle.sim_top.proofs.top.run_refined.Goals as goal
+
+pub refined_cut-requires-clause-few : goal.refined_cut-requires-clause-few
+refined_cut-requires-clause-few g c = let r = c.requires.runnable in few c.accepted_nets_are_small.ensures.leaves r.text c.args.errand.now.built.now r.is_built
+
+pub refined_cut-requires-clause-few_sinks : goal.refined_cut-requires-clause-few_sinks
+refined_cut-requires-clause-few_sinks g c =
+    let r = c.requires.runnable in
+    let built = c.args.errand.now.built.now in
+    subst (λ (w : List ℕ). length (sinks built.ordered.net w) < 4294967296) (sym r.are_watched) (few_sinks c.accepted_nets_are_small.ensures.watched c.accepted_nets_are_small.ensures.sinks r.text built r.is_built)
 
 pub simulate_cut-requires-clause-said : goal.simulate_cut-requires-clause-said
 simulate_cut-requires-clause-said g c κs within = c.requires.runnable.is_built.ordered.serves.of.is.words

@@ -1,8 +1,8 @@
 use Rattle.std.proofs.Common.{◌≡◌, ◌∙◌, ap, true, false, refl, sym, subst, inl}
 use Rattle.std.specs.Prelude.{Err}
-use Rattle.fault_order.specs.Verdicts.{IsVerdict}
+use Rattle.place_text.specs.Verdicts.{IsVerdict}
 use Rattle.std.proofs.lemmas.Result.{err_from_is_err_and}
-use Rattle.fault_order.proofs.Verdicts.{passes, refuses_by}
+use Rattle.place_text.proofs.Verdicts.{passes, refuses_by}
 use Rattle.fir_tree.specs.declared.circuit.Circuit.{Circuit}
 use Rattle.size_check.specs.declared.fault.SizeFault.TheVariants.{TooLarge, NoMemory}
 use Rattle.size_check.specs.Faults.{place_of, rank_of}

@@ -1,8 +1,8 @@
 use Rattle.std.proofs.Common.{ap, subst, arith, ⊎_elim}
 use Rattle.std.proofs.lemmas.Result.{err_from_is_err_and}
 use Rattle.place_text.specs.Places.{place}
-use Rattle.fault_order.specs.First.{IsFirst, HasNone}
-use Rattle.fault_order.proofs.Verdicts.{passes, refuses_by, wants_memory}
+use Rattle.place_text.specs.First.{IsFirst, HasNone}
+use Rattle.place_text.proofs.Verdicts.{passes, refuses_by, wants_memory}
 use Rattle.snapshot_text.specs.declared.fault.StateFault.TheVariants.{BadLine}
 use Rattle.snapshot_text.specs.Cells.{cells_of}
 use Rattle.snapshot_text.specs.Faults.{IsFault, place_of, rank_of}

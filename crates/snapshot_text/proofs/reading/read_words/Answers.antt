@@ -1,7 +1,7 @@
 use Rattle.std.proofs.Common.{◌≡◌, ◌∷◌, ◌++◌, ◌∙◌, [], sym, ap, ap₂, subst}
 use Rattle.std.specs.Prelude.{◌%◌, ◌/◌, ◌^◌}
 use Rattle.std.proofs.lemmas.List.{append_assoc}
-use Rattle.net_meaning.specs.Words.{words_of_value}
+use Rattle.ground_net.specs.Words.{words_of_value}
 use Rattle.snapshot_text.specs.Cells.{state_cells}
 use Rattle.snapshot_text.specs.Steps.{cells_ahead}
 use Rattle.snapshot_text.proofs.Held.{IsKeptTo, kept_more, kept_done, wide_words, narrow_words}

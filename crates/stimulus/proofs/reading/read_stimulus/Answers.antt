@@ -1,7 +1,7 @@
 use Rattle.std.proofs.Common.{sym, ap, ◌∙◌, subst, ⊎_elim}
 use Rattle.std.proofs.lemmas.Result.{err_from_is_err_and}
-use Rattle.fault_order.specs.First.{IsFirst}
-use Rattle.fault_order.proofs.Verdicts.{passes, refuses_by, wants_memory}
+use Rattle.place_text.specs.First.{IsFirst}
+use Rattle.place_text.proofs.Verdicts.{passes, refuses_by, wants_memory}
 use Rattle.stimulus.specs.Words.{behind}
 use Rattle.stimulus.specs.Faults.{IsFault, place_of, rank_of}
 use Rattle.stimulus.specs.Ranks.{one_each}

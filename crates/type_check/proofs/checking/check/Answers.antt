@@ -1,6 +1,6 @@
 use Rattle.std.proofs.Common.{sym, ◌∙◌}
-use Rattle.fault_order.proofs.Ordering.{first_of, none_of}
-use Rattle.fault_order.proofs.Verdicts.{passes, refuses_by}
+use Rattle.place_text.proofs.Ordering.{first_of, none_of}
+use Rattle.place_text.proofs.Verdicts.{passes, refuses_by}
 use Rattle.type_check.specs.Faults.{place_of, rank_of}
 use Rattle.type_check.specs.Ranks.{one_each}
 use Rattle.type_check.proofs.Telling.{tells}

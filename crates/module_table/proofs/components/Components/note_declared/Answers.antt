@@ -2,7 +2,7 @@ use Rattle.std.proofs.Common.{subst, sym, ap, ◌∙◌}
 use Rattle.std.specs.Prelude.{Some}
 use Rattle.fir_types.specs.declared.fir_type.FirType.{FirType}
 use Rattle.fir_tree.specs.Parts.{part_of}
-use Rattle.type_classes.specs.Sights.{table_of}
+use Rattle.type_index.specs.Sights.{table_of}
 use Rattle.module_table.specs.declared.components.Noted.{Noted}
 use Rattle.module_table.specs.Components.{AreClassed, with_part}
 use Rattle.module_table.proofs.Noting.{all_classed, environment_with, has_class}

@@ -4,7 +4,7 @@ use Rattle.fir_types.specs.declared.fir_type.FirType.{FirType}
 use Rattle.fir_tree.specs.declared.circuit.Module.{Module}
 use Rattle.fir_tree.specs.declared.part.Flow.TheVariants.{Source}
 use Rattle.fir_tree.specs.Parts.{source_of, instance_in}
-use Rattle.type_classes.specs.Sights.{table_of}
+use Rattle.type_index.specs.Sights.{table_of}
 use Rattle.module_table.specs.declared.components.Noted.{Noted}
 use Rattle.module_table.specs.Components.{AreClassed, Environment, with_part}
 use Rattle.module_table.specs.Tables.{named}

@@ -4,7 +4,7 @@ use Rattle.fir_types.specs.declared.fir_type.FirType.{FirType}
 use Rattle.fir_types.specs.Bundles.{memory_of}
 use Rattle.fir_tree.specs.declared.part.Flow.TheVariants.{Source}
 use Rattle.fir_tree.specs.Parts.{source_of}
-use Rattle.type_classes.specs.Sights.{table_of}
+use Rattle.type_index.specs.Sights.{table_of}
 use Rattle.module_table.specs.declared.components.Noted.{Noted}
 use Rattle.module_table.specs.Components.{AreClassed, with_part}
 use Rattle.module_table.proofs.Noting.{all_classed, environment_with, has_class}

@@ -3,7 +3,7 @@ use Rattle.std.specs.Prelude.{Some}
 use Rattle.fir_types.specs.declared.fir_type.FirType.{FirType}
 use Rattle.fir_tree.specs.declared.part.Flow.TheVariants.{Source}
 use Rattle.fir_tree.specs.Parts.{source_of}
-use Rattle.type_classes.specs.Sights.{table_of}
+use Rattle.type_index.specs.Sights.{table_of}
 use Rattle.module_table.specs.declared.components.Noted.{Noted}
 use Rattle.module_table.specs.Components.{AreClassed, Environment, with_part}
 use Rattle.module_table.specs.Leading.{Leads}

@@ -1,5 +1,5 @@
 use Rattle.std.proofs.Common.{subst}
-use Rattle.type_classes.specs.Sights.{table_of}
+use Rattle.type_index.specs.Sights.{table_of}
 use Rattle.module_table.specs.Components.{Environment}
 use Rattle.module_table.specs.Leading.{AreCompared}
 use Rattle.module_table.proofs.Leading.{compared_by}

@@ -3,7 +3,7 @@ use Rattle.std.specs.Prelude.{Some, slice_get}
 use Rattle.std.specs.List.{HoldsAt}
 use Rattle.std.specs.Option.{option_copied}
 use Rattle.std.specs.Map.{lookup}
-use Rattle.type_classes.specs.Sights.{table_of}
+use Rattle.type_index.specs.Sights.{table_of}
 use Rattle.module_table.specs.Tables.{instance_typ, IsInstance}
 use Rattle.module_table.proofs.Indexing.{got_at, instance_at, kept_at, each_got}
 use Rattle.module_table.proofs.modules.Modules.first_instance.Goals as goal

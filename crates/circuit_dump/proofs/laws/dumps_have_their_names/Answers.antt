@@ -1,5 +1,0 @@
-use Rattle.circuit_dump.proofs.DumpsOnce.{no_fault}
-use Rattle.circuit_dump.proofs.laws.dumps_have_their_names.Goals as goal
-
-pub returns : goal.returns
-returns c = λ texts design names stimulus bytes dump none. no_fault texts design names stimulus bytes dump none

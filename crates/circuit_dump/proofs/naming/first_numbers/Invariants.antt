@@ -1,9 +1,0 @@
-use Rattle.std.proofs.Common.{◌≡◌, ℕ, ◌-◌, List, length, drop}
-use Rattle.std.specs.List.{position_from}
-use Rattle.std.specs.Str.{bytes_eq}
-use Rattle.indexmap.specs.IndexMap.{get_by}
-use Rattle.circuit_dump.specs.NetNames.{is_named}
-use Rattle.circuit_dump.proofs.naming.first_numbers.Given as goal
-
-abbrev pub invariant-loop-turn : goal.invariant-loop-turn
-invariant-loop-turn l = (name : List ℕ) → get_by (λ k. bytes_eq name k.now) l.firsts ≡ position_from (is_named name) (length l.leaves - l.turn) (drop (length l.leaves - l.turn) l.leaves)

@@ -1,9 +1,0 @@
-use Rattle.std.proofs.Common.{◌≡◌, take, map}
-use Rattle.std.specs.Prelude.{Some}
-use Rattle.std.specs.List.{AllZip}
-use Rattle.std.specs.Str.{bytes_eq}
-use Rattle.indexmap.specs.IndexMap.{get_by}
-use Rattle.circuit_dump.proofs.naming.numbers_of.Given as goal
-
-abbrev pub invariant-loop-at : goal.invariant-loop-at
-invariant-loop-at l = AllZip (λ name x. get_by (λ k. bytes_eq name k.now) l.firsts ≡ Some x) (map (λ n. n.now) (take l.at l.names)) l.numbers

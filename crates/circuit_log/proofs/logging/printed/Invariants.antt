@@ -1,6 +1,0 @@
-use Rattle.std.proofs.Common.{map, take}
-use Rattle.log_runs.specs.Watched.{ArePrints}
-use Rattle.circuit_log.proofs.logging.printed.Given as goal
-
-abbrev pub invariant-loop-it : goal.invariant-loop-it
-invariant-loop-it l = ArePrints l.prints (take l.it-index l.found) (map (λ item. item.now) l.items)

@@ -1,2 +1,0 @@
--- what a run goes by, for the contracts of the functions here
-pub mod LogPlans

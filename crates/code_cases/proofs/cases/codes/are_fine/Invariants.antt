@@ -1,6 +1,0 @@
-use Rattle.std.proofs.Common.{take}
-use Rattle.flat_code.specs.Fine.{AreFine}
-use Rattle.code_cases.proofs.cases.codes.are_fine.Given as goal
-
-abbrev pub invariant-loop-instr : goal.invariant-loop-instr
-invariant-loop-instr l = AreFine l.slots l.words 0 0 (take l.instr-index l.instrs)

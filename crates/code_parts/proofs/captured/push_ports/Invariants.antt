@@ -1,6 +1,0 @@
-use Rattle.std.proofs.Common.{◌≡◌, ◌++◌, take}
-use Rattle.code_parts.specs.Rows.{told_by_ports}
-use Rattle.code_parts.proofs.captured.push_ports.Given as goal
-
-abbrev pub invariant-loop-port : goal.invariant-loop-port
-invariant-loop-port l = l.reads ≡ l.fn.reads ++ told_by_ports l.memory (take l.port-index l.ports)

@@ -1,5 +1,0 @@
-use Rattle.code_parts.proofs.Placed.{placed_is_code}
-use Rattle.code_parts.proofs.place_laws.placed_codes_are_codes.Goals as goal
-
-pub returns : goal.returns
-returns c = placed_is_code

@@ -1,5 +1,0 @@
-use Rattle.code_parts.proofs.Rowed.{all_of}
-use Rattle.code_parts.proofs.sources.sources_of.Goals as goal
-
-pub returns : goal.returns
-returns c = all_of c.args.net.now c.requires.net c.requires.said (record { leaves = c.in_ok-leaves.leaves; memories = c.in_ok-memories.memories }) c.in_ok-leaves.ensures c.in_ok-memories.ensures

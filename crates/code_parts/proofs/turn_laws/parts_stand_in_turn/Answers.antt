@@ -1,8 +1,0 @@
-use Rattle.code_parts.proofs.Turning.{part_turn, part_known}
-use Rattle.code_parts.proofs.turn_laws.parts_stand_in_turn.Goals as goal
-
-pub returns-clause-turn : goal.returns-clause-turn
-returns-clause-turn c = λ net watch sequence part S w order union all. (part_turn net w watch sequence part S order union all).0
-
-pub returns-clause-known : goal.returns-clause-known
-returns-clause-known c = λ net watch sequence part S w order union all. part_known net w watch sequence part S order union all

@@ -1,6 +1,0 @@
-use Rattle.std.proofs.Common.{take}
-use Rattle.code_parts.specs.FirstWords.{HaveNumbers}
-use Rattle.code_parts.proofs.words.have_numbers.Given as goal
-
-abbrev pub invariant-loop-memory : goal.invariant-loop-memory
-invariant-loop-memory l = HaveNumbers (take l.memory-index l.memories)

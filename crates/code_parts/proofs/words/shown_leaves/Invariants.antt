@@ -1,5 +1,0 @@
-use Rattle.std.proofs.Common.{◌≡◌, take, map}
-use Rattle.code_parts.proofs.words.shown_leaves.Given as goal
-
-abbrev pub invariant-loop-read : goal.invariant-loop-read
-invariant-loop-read l = l.leaves ≡ map (λ read. read.leaf) (take l.read-index l.reads)

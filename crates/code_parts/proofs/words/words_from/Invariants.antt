@@ -1,5 +1,0 @@
-use Rattle.code_parts.proofs.Rowed.{AreStarts}
-use Rattle.code_parts.proofs.words.words_from.Given as goal
-
-abbrev pub invariant-loop-leaf : goal.invariant-loop-leaf
-invariant-loop-leaf l = AreStarts l.net l.leaves l.first l.leaf-index l.next l.words

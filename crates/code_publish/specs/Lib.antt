@@ -1,3 +1,0 @@
-pub mod Publishing
-pub mod Writing
-pub mod Finishing

@@ -1,5 +1,0 @@
-pub mod NextValues
-pub mod NextWords
-pub mod Evaluating
-pub mod Reading
-pub mod Shaping

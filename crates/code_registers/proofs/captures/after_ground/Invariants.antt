@@ -1,6 +1,0 @@
-use Rattle.std.proofs.Common.{◌≡◌, take, fold}
-use Rattle.code_registers.specs.Captures.{over_ground, there_ground}
-use Rattle.code_registers.proofs.captures.after_ground.Given as goal
-
-abbrev pub invariant-loop-writer : goal.invariant-loop-writer
-invariant-loop-writer l = l.held ≡ fold (λ held writer. over_ground l.port.addr l.of.number writer held) (there_ground l.port.addr l.of) (take l.writer-index l.memory.ports)

@@ -1,6 +1,0 @@
-use Rattle.std.proofs.Common.{refl}
-use Rattle.code_registers.proofs.Reading.{zero_made}
-use Rattle.code_registers.proofs.captures.zero_of.Goals as goal
-
-pub returns : goal.returns
-returns c = zero_made _ refl

@@ -1,3 +1,0 @@
-pub mod FromNets
-pub mod Sequences
-pub mod Segmented

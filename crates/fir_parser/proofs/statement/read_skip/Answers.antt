@@ -1,0 +1,16 @@
+use Rattle.std.proofs.lemmas.Result.{err_from_is_err_and}
+use Rattle.fir_parser.proofs.Joins.{joins_on, first, later_on}
+use Rattle.fir_parser.proofs.statement.read_skip.Goals as goal
+
+pub returns-in_err-place : goal.returns-in_err-place
+returns-in_err-place c =
+    let p = err_from_is_err_and c.from_residual.result c.from_residual.ensures.1 in
+    rw (p.1, p.2) (first _ c.in_err-place.ensures.reads)
+
+pub returns-in_err-take : goal.returns-in_err-take
+returns-in_err-take c =
+    let p = err_from_is_err_and c.from_residual-in_err-take.result c.from_residual-in_err-take.ensures.1 in
+    rw (p.1, p.2) (later_on c.in_ok-place.ensures.reads c.in_err-take.ensures.reads)
+
+pub returns : goal.returns
+returns c = (joins_on c.in_ok-place.ensures.reads c.in_ok-take.ensures.reads)

@@ -1,5 +1,0 @@
-pub mod Steps
-pub mod Joins
-pub mod Entering
-pub mod Keys
-pub mod Loops

@@ -1,5 +1,0 @@
-use Rattle.line_parser.proofs.Steps.{passes_whole}
-use Rattle.line_parser.proofs.symbols.take_type.Goals as goal
-
-pub returns : goal.returns
-returns c = let it = c.in_ok-it.ensures in passes_whole c.args.reader.now c.read_type.new.reader c.requires.at it.bytes it.laid it.brackets it.major it.read it.whole it.room

@@ -1,4 +1,0 @@
-pub mod Branching
-pub mod Expected
-pub mod Keys
-pub mod Taking

@@ -1,6 +1,0 @@
-use Rattle.fir_meaning.proofs.Settling.{state_itself}
-use Rattle.log_laws.proofs.Agreeing.{logs_same}
-use Rattle.log_laws.proofs.laws.logs_agree.Goals as goal
-
-pub returns : goal.returns
-returns c = λ design all has none leaves_of takes items nodes sound cycle state given printed other line last one two. logs_same design all has none leaves_of takes items nodes sound (state_itself design state) one two

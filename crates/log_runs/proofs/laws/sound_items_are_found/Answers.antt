@@ -1,5 +1,0 @@
-use Rattle.log_runs.proofs.Existing.{some_found}
-use Rattle.log_runs.proofs.laws.sound_items_are_found.Goals as goal
-
-pub returns : goal.returns
-returns c = λ texts design net serves prints has. some_found texts design net serves prints has

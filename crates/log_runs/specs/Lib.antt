@@ -1,2 +1,0 @@
--- what a run of items is watched by
-pub mod Watched

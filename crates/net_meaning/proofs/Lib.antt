@@ -1,9 +1,0 @@
-pub mod Loops
-pub mod Settling
-pub mod Shaping
-pub mod Mentioning
-pub mod Examples
-mod ExamplesOfCones
-pub mod Placing
-pub mod StateWords
-pub mod Ranges

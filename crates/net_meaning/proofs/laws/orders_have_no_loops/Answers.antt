@@ -1,5 +1,0 @@
-use Rattle.net_meaning.proofs.Loops.{no_loop}
-use Rattle.net_meaning.proofs.laws.orders_have_no_loops.Goals as goal
-
-pub returns : goal.returns
-returns c = λ net sequence order. no_loop net sequence order

@@ -1,5 +1,0 @@
-use Rattle.net_meaning.proofs.Ranges.{settled_has}
-use Rattle.net_meaning.proofs.laws.settled_values_have_their_shapes.Goals as goal
-
-pub returns : goal.returns
-returns c = λ net sequence w order s given rho p. settled_has net w sequence order s given rho p

@@ -1,5 +1,0 @@
-use Rattle.net_meaning.proofs.Shaping.{shapes_hold}
-use Rattle.net_meaning.proofs.laws.values_have_their_shapes.Goals as goal
-
-pub returns : goal.returns
-returns c = λ g table instant s e h. shapes_hold table instant h g s e

@@ -1,5 +1,0 @@
-use Rattle.print_laws.proofs.Enabling.{one_where_enabled}
-use Rattle.print_laws.proofs.laws.wires_are_one_where_items_are_enabled.Goals as goal
-
-pub returns : goal.returns
-returns c = λ scene wire heads behind n bit zero whole left. one_where_enabled scene wire bit heads behind zero whole n left

@@ -1,2 +1,0 @@
-pub mod OneListing
-pub mod RefinedOnce

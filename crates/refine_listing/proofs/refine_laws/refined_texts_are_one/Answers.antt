@@ -1,5 +1,0 @@
-use Rattle.refine_listing.proofs.RefinedOnce.{one_text}
-use Rattle.refine_listing.proofs.refine_laws.refined_texts_are_one.Goals as goal
-
-pub returns : goal.returns
-returns c = one_text

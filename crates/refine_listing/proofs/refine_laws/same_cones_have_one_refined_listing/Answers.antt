@@ -1,5 +1,0 @@
-use Rattle.refine_listing.proofs.OneListing.{one_refined_listing}
-use Rattle.refine_listing.proofs.refine_laws.same_cones_have_one_refined_listing.Goals as goal
-
-pub returns : goal.returns
-returns c = one_refined_listing

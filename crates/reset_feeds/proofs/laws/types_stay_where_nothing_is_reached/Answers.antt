@@ -1,5 +1,0 @@
-use Rattle.reset_feeds.proofs.Stays.{type_stays}
-use Rattle.reset_feeds.proofs.laws.types_stay_where_nothing_is_reached.Goals as goal
-
-pub returns : goal.returns
-returns c typ n = type_stays typ n

@@ -1,5 +1,0 @@
-use Rattle.reset_feeds.proofs.Leading.{ways_reach}
-use Rattle.reset_feeds.proofs.laws.ways_lead_to_what_is_reached.Goals as goal
-
-pub returns : goal.returns
-returns c all number graph n p = ways_reach all number graph n p

@@ -1,7 +1,0 @@
--- what a reader must believe
-pub mod Grounds
-pub mod Feeds
-pub mod Resolved
--- what the search finds, and where none is needed
-pub mod Searched
-pub mod Sources

@@ -1,6 +1,0 @@
-use Rattle.std.proofs.Common.{◌≡◌, drop}
-use Rattle.reset_resolution.specs.Layers.{memory_holds}
-use Rattle.reset_resolution.proofs.sources.memory_holds.Given as goal
-
-abbrev pub invariant-loop-line : goal.invariant-loop-line
-invariant-loop-line l = memory_holds l.lines ≡ memory_holds (drop l.line-index l.lines)

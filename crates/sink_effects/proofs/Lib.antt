@@ -1,9 +1,0 @@
-pub mod Left
-pub mod Parts
-pub mod Blocks
-pub mod Lists
-pub mod Apart
-pub mod Standing
-pub mod Told
-pub mod Publishing
-pub mod SplitParts

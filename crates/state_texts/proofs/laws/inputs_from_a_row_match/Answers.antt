@@ -1,5 +1,0 @@
-use Rattle.state_texts.proofs.Inputs.{all_given_from}
-use Rattle.state_texts.proofs.laws.inputs_from_a_row_match.Goals as goal
-
-pub returns : goal.returns
-returns c = λ texts design net serves ports fed stimulus formed start are. all_given_from texts design net serves ports fed stimulus formed start are

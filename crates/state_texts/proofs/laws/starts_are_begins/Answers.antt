@@ -1,5 +1,0 @@
-use Rattle.state_texts.proofs.Begun.{starts_are_begins}
-use Rattle.state_texts.proofs.laws.starts_are_begins.Goals as goal
-
-pub returns : goal.returns
-returns c = λ texts design net serves apart begin snapshot start. starts_are_begins texts design net serves apart begin snapshot start

@@ -1,5 +1,0 @@
-pub mod Same
-pub mod Sound
-pub mod Made
-pub mod Ports
-mod Examples

@@ -1,0 +1,9 @@
+use Rattle.std.proofs.Common.{rules}
+use Rattle.type_index.specs.Sights.{table_of}
+use Rattle.type_index.proofs.Same.{element_answer}
+use Rattle.type_index.proofs.classes.Classes.element.Goals as goal
+
+pub returns : goal.returns
+returns c =
+    let self = c.args.self.now in
+    element_answer (table_of self) self.elements.entries self.fields.entries self.next c.args.class c.copied.result self.sound (search rules)

@@ -1,4 +1,0 @@
-mod Flips
-mod Targets
-mod Walking
-mod Whole

@@ -1,2 +1,0 @@
-pub mod ByFlips
-pub mod Walked
