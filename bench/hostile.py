@@ -358,9 +358,9 @@ def layers_of_vectors(size):
 
 
 def element_to_element(size):
-    """An element of one vector of registers is set to one of another, both by an index."""
-    lines = ["input clock : Clock", "input i : UInt<16>"] + [f"reg {name} : UInt<8>[{size}], clock" for name in "vw"]
-    return FRONT + module(lines + ["connect w[i], v[i]"])
+    """An element of a vector of registers is set to one of the same, both by an index of their own."""
+    lines = ["input clock : Clock", "input i : UInt<16>", "input j : UInt<16>", f"reg v : UInt<8>[{size}], clock"]
+    return FRONT + module(lines + ["connect v[i], v[j]"])
 
 
 def vector_where_an_element_is_one(size):
@@ -571,7 +571,7 @@ ROWS = {
     "n modules in a row, each with a Reset": (row_of_resets, 2_000, TOO_LARGE),
     "n modules in one ring, each with a Reset": (ring_of_resets, 2_000, "circuit InstanceLoop 9:15"),
     "an element of n to one of n, by indices": (element_to_element, 20_000, ACCEPTED),
-    "n registers where one of n is 1, by an index": (vector_where_an_element_is_one, 20_000, ACCEPTED),
+    "n registers where one of n is 1, by an index": (vector_where_an_element_is_one, 10_000, ACCEPTED),
     "n layers of 200 elements, in one statement each": (layers_in_one_statement, 75, ACCEPTED),
 }
 
@@ -592,7 +592,7 @@ KNOWN = {
     "a chain of n arms that fits": (CHECK, reached_arms, 400, ARMS),
     "n settings of names of 1,000 letters, `run`": (("run",), settings_of_long_names, 250, None),
     "an element of n to one of n, by indices, `cut`": (CUT, element_to_element, 20_000, None),
-    "n registers where one of n is 1, `cut`": (CUT, vector_where_an_element_is_one, 20_000, None),
+    "n registers where one of n is 1, `cut`": (CUT, vector_where_an_element_is_one, 10_000, None),
     "n layers of 200 elements, in one statement each, `cut`": (CUT, layers_in_one_statement, 75, None),
     "n wires, one of which is set to one of n, `cut`": (CUT, wires_to_wires, 2_000, CONES),
 }
