@@ -325,7 +325,95 @@ connect out, xor(shown, other)
     )
 
 
+def register_file(banks=32, rows=32):
+    """A register file of banks of rows: two reads, one write, each by two indices."""
+    return circuit(
+        NOISE
+        + f"""
+reg words : UInt<32>[{rows}][{banks}], clock
+node first = words[bits(noise, 4, 0)][bits(noise, 9, 5)]
+node second = words[bits(noise, 14, 10)][bits(noise, 19, 15)]
+when bits(noise, 30, 30) :
+  connect words[bits(noise, 24, 20)][bits(noise, 29, 25)], noise
+connect out, xor(first, second)
+"""
+    )
+
+
+def map_table(names=32, registers=64, ways=4):
+    """A map table, a free list, ready bits and values by physical register, so many instructions a cycle: vectors of registers that index one another."""
+    lines = [f"reg map : UInt<6>[{names}], clock", f"reg free : UInt<6>[{registers}], clock", f"reg ready : UInt<1>[{registers}], clock"]
+    lines += [f"reg value : UInt<32>[{registers}], clock", "reg head : UInt<6>, clock", "reg other : UInt<32>, clock", "connect other, xor(noise, shl(bits(other, 26, 0), 5))"]
+    for k in range(ways):
+        word, low = ("noise", "other")[k % 2], 16 * (k // 2)
+        lines += [f"node {name}{k} = bits({word}, {low + high}, {low + high - 4})" for name, high in (("rs", 4), ("rt", 9), ("rd", 14))]
+        lines += [f"node valid{k} = bits({word}, {low + 15}, {low + 15})", f"node head{k} = tail(add(head, UInt<6>({k})), 1)"]
+        lines += [f"node both{k} = cat(map[rs{k}], cat(map[rt{k}], cat(free[head{k}], map[rd{k}])))", f"node go{k} = and(ready[map[rs{k}]], ready[map[rt{k}]])"]
+    for k in range(ways):
+        lines += [f"when valid{k} :", f"  connect map[rd{k}], free[head{k}]", f"  connect ready[free[head{k}]], UInt<1>(0)", f"  connect head, tail(add(head, UInt<6>({k + 1})), 1)"]
+    lines += ["node back = bits(other, 31, 26)", "when bits(other, 0, 0) :", "  connect ready[map[bits(back, 4, 0)]], UInt<1>(1)", "  connect value[map[bits(back, 4, 0)]], tail(add(value[back], noise), 1)"]
+    lines += ["connect free[back], bits(noise, 31, 26)", "wire shown : UInt<32>", "connect shown, value[map[rs0]]"]
+    for k in range(ways):
+        lines += [f"connect shown, xor(cat(both{k}, go{k}), value[map[rs{k}]])"] if k == ways - 1 else [f"node shown{k} = xor(cat(both{k}, go{k}), value[map[rt{k}]])"]
+    mixed = "shown"
+    for k in range(ways - 1):
+        mixed = f"xor({mixed}, shown{k})"
+    return circuit(NOISE + "\n".join([*lines, f"connect out, {mixed}"]))
+
+
+def crossbar(count=16):
+    """Ports of bundles: each output takes the input that its register selects, and the ready goes back."""
+    typ = "{ valid : UInt<1>, bits : { data : UInt<32>, id : UInt<4>, last : UInt<1>, strb : UInt<4> } }"
+    lines = [f"wire in : {typ}[{count}]", f"wire taken : {typ}[{count}]", f"wire ready : UInt<1>[{count}]", f"reg held : {typ}[{count}], clock", f"reg sel : UInt<4>[{count}], clock"]
+    for k in range(count):
+        lines += [f"connect in[{k}].valid, bits(noise, {k}, {k})", f"connect in[{k}].bits.data, xor(noise, UInt<32>({k * 77}))", f"connect in[{k}].bits.id, UInt<4>({k})"]
+        lines += [f"connect in[{k}].bits.last, bits(noise, {31 - k}, {31 - k})", f"connect in[{k}].bits.strb, bits(noise, {k + 3}, {k})", f"connect ready[{k}], UInt<1>(0)"]
+        lines += [f"connect sel[{k}], bits(xor(noise, UInt<32>({k * 11})), 7, 4)"]
+    for k in range(count):
+        lines += [f"connect taken[{k}], in[sel[{k}]]", f"when in[sel[{k}]].valid :", f"  connect ready[sel[{k}]], UInt<1>(1)"]
+    mixed = "UInt<32>(0)"
+    for k in range(count):
+        lines += [f"when ready[{k}] :", f"  connect held[{k}], taken[{k}]"]
+        mixed = f"xor({mixed}, xor(held[{k}].bits.data, cat(held[{k}].bits.id, cat(held[{k}].bits.strb, cat(held[{k}].bits.last, held[{k}].valid)))))"
+    return circuit(NOISE + "\n".join([*lines, f"connect out, {mixed}"]))
+
+
+def reorder_buffer(count=32):
+    """Bundles in registers, with a commit and a flush under conditions that are entries themselves."""
+    parts = "pc : UInt<32>, rd : UInt<5>, prd : UInt<6>, old : UInt<6>, op : UInt<7>, imm : UInt<20>, br : UInt<1>"
+    typ = f"{{ valid : UInt<1>, busy : UInt<1>, exc : UInt<1>, uop : {{ {parts} }}, val : UInt<32> }}"
+    lines = [f"reg entries : {typ}[{count}], clock", "reg head : UInt<5>, clock", "reg last : UInt<5>, clock", f"wire new : {typ}", "wire flush : UInt<1>"]
+    sources = {"valid": "UInt<1>(1)", "busy": "bits(noise, 3, 3)", "exc": "andr(bits(noise, 9, 4))", "val": "noise", "uop.pc": "not(noise)", "uop.imm": "bits(noise, 19, 0)"}
+    sources |= {"uop.rd": "bits(noise, 4, 0)", "uop.prd": "bits(noise, 10, 5)", "uop.old": "bits(noise, 16, 11)", "uop.op": "bits(noise, 23, 17)", "uop.br": "bits(noise, 24, 24)"}
+    lines += [f"connect new.{name}, {source}" for name, source in sources.items()]
+    lines += ["node back = bits(noise, 31, 27)", "connect flush, UInt<1>(0)", "when bits(noise, 0, 0) :", "  connect entries[last], new", "  connect last, tail(add(last, UInt<5>(1)), 1)"]
+    lines += ["when and(bits(noise, 1, 1), entries[back].valid) :", "  connect entries[back].busy, UInt<1>(0)", "  connect entries[back].val, noise"]
+    lines += ["when and(entries[head].valid, not(entries[head].busy)) :", "  when entries[head].exc :", "    connect flush, UInt<1>(1)", "    connect entries[last].valid, UInt<1>(0)"]
+    lines += ["  else :", "    connect entries[head].valid, UInt<1>(0)", "    connect head, tail(add(head, UInt<5>(1)), 1)"]
+    commit = "cat(entries[head].uop.rd, cat(entries[head].uop.prd, cat(entries[head].uop.op, cat(entries[head].valid, flush))))"
+    return circuit(NOISE + "\n".join([*lines, f"connect out, xor(xor(entries[head].val, entries[head].uop.pc), {commit})"]))
+
+
+def branch_table(count=256):
+    """Bundles in a vector of registers, read, compared and written back, and a table of constants in wires."""
+    typ = "{ tag : UInt<20>, ctr : UInt<2>, target : UInt<32>, valid : UInt<1> }"
+    lines = [f"reg entries : {typ}[{count}], clock", "reg shown : UInt<8>, clock", "node here = bits(noise, 15, 8)", "connect shown, bits(noise, 7, 0)", f"wire table : UInt<8>[{count}]"]
+    lines += [f"connect table[{k}], UInt<8>({k * 37 % 256})" for k in range(count)]
+    lines += ["when bits(noise, 20, 20) :", "  when eq(entries[here].tag, bits(noise, 31, 12)) :", "    connect entries[here].ctr, tail(add(entries[here].ctr, UInt<2>(1)), 1)"]
+    lines += ["  else when bits(noise, 21, 21) :", "    connect entries[here], entries[shown]", "  else :", "    connect entries[here].tag, bits(noise, 31, 12)", "    connect entries[here].target, noise"]
+    commit = "xor(entries[shown].target, cat(entries[shown].tag, cat(entries[shown].ctr, entries[shown].valid)))"
+    return circuit(NOISE + "\n".join([*lines, f"connect out, xor({commit}, table[shown])"]))
+
+
 CORPUS = Path(__file__).resolve().parent.parent / "tests/corpus"
+# Circuits whose vectors are read by indices that are chosen at run time, as generators write them.
+INDEXED = {
+    "register_file": register_file,
+    "map_table": map_table,
+    "crossbar": crossbar,
+    "reorder_buffer": reorder_buffer,
+    "branch_table": branch_table,
+}
 # Each circuit with its name, in the order of the sizes of their codes; the rings behind the others.
 CIRCUITS = {
     "counter": counter,

@@ -20,7 +20,7 @@ import tempfile
 import time
 from pathlib import Path
 
-from circuits import CIRCUITS, mesh
+from circuits import CIRCUITS, INDEXED, mesh
 
 HERE = Path(__file__).resolve().parent
 MOST = 1_000_000
@@ -122,7 +122,7 @@ def table(asked):
     with tempfile.TemporaryDirectory() as folder:
         room = Room(folder, asked.clock)
         for name in asked.circuits:
-            circuit = CIRCUITS[name]()
+            circuit = (CIRCUITS | INDEXED)[name]()
             print(f"{name:16}", end="", flush=True)
             for head, workers in zip(heads, [*asked.workers, None]):
                 if workers:
@@ -201,7 +201,7 @@ def main():
     words = argparse.ArgumentParser(usage=re.search(r"usage: (.*?)\n\n", __doc__, re.S)[1])
     words.add_argument("program")
     words.add_argument("other", nargs="?")
-    words.add_argument("--circuits", nargs="+", choices=list(CIRCUITS), default=list(CIRCUITS))
+    words.add_argument("--circuits", nargs="+", choices=[*CIRCUITS, *INDEXED], default=list(CIRCUITS))
     words.add_argument("--workers", nargs="+", type=int, default=[1, 2, 4])
     words.add_argument("--times", type=int, default=5)
     words.add_argument("--seconds", type=float, default=1)
