@@ -43,8 +43,8 @@ pub fn lay_out<'a>(alloc: Global, fitted: &'a Fitted) -> Result<Layout<'a>, Allo
     Ok(layout)
 }
 
-/// Adds the components of the module at a place.
-fn push_place<'a>(
+/// Adds the components of the module at a place, in text order.
+pub fn push_place<'a>(
     alloc: Global,
     fitted: &'a Fitted,
     layout: &mut Layout<'a>,

@@ -1,5 +1,5 @@
--- Main's leaves, as they are held.
-use Rattle.std.proofs.Common.{◌≡◌, ℕ, ◌+◌, ◌<◌, ◌≤◌, min, List, [], ◌∷◌, ◌++◌, map, zip, length, take, get_or, Option, Some, None, refl, sym, ap, ◌∙◌, append-nil}
+-- Main's input leaves, as they are held.
+use Rattle.std.proofs.Common.{◌≡◌, ℕ, ◌+◌, ◌<◌, ◌≤◌, min, List, [], ◌∷◌, ◌++◌, map, zip, length, take, get_or, Option, Some, None, sym, ap, ◌∙◌, append-nil}
 use Rattle.std.specs.Prelude.{option_map, flat_map}
 use Rattle.std.proofs.lemmas.List.{take_more}
 use Rattle.std.proofs.lemmas.List.Concat.{flat_map-cons}
@@ -9,22 +9,18 @@ use Rattle.fir_types.specs.declared.fir_type.FirType.{FirType}
 use Rattle.fir_meaning.specs.Components.{TypedModule, Leaf}
 use Rattle.fir_meaning.proofs.Tracking.{none_some}
 use Rattle.fir_names.proofs.Graphs.{some_same}
-use Rattle.settling_laws.specs.Runs.{Watched}
 use Rattle.plain_cycle.specs.declared.declarations.Declaration.{Declaration}
 use Rattle.plain_cycle.specs.Held.{Kept, held}
 use Rattle.plain_cycle.specs.Parts.{bare, bares}
 use Rattle.plain_cycle.proofs.Lists.{zip_mapped, zip_mapped_more}
 use Rattle.plain_cycle.proofs.Modules.{zipped}
 use Rattle.plain_cycle.specs.Given.{inputs_of_component, inputs_of}
-use Rattle.plain_run.specs.Leaves.{leaves_of_port, leaves_of_ports, component_with}
+use Rattle.plain_run.specs.Leaves.{component_with}
 
 -- Components, one after another
 
 abbrev pub inputs_kept : Kept × FirType → List Leaf
 inputs_kept both = inputs_of_component (component_with both)
-
-abbrev pub leaves_kept : Kept × FirType → List Watched
-leaves_kept both = leaves_of_port (component_with both)
 
 pub flat_more : {B : Type 0} (f : Kept × FirType → List B) (ds : List Declaration) (ts : List FirType) (k : ℕ) (d : Declaration) (t : FirType) (before after : List B) → k < length ds → k < length ts
     → d ≡ get_or ds k d → t ≡ get_or ts k t → after ≡ before ++ f (held d, t) → before ≡ flat_map f (zipped ds ts k) → after ≡ flat_map f (zipped ds ts (k + 1))
@@ -38,27 +34,12 @@ inputs_known : (found : Option TypedModule) (bs : List (Kept × FirType)) → So
 inputs_known None bs e = absurd (none_some (sym e))
 inputs_known (Some m) bs e = ap (flat_map inputs_kept) (some_same e) ∙ flat_map-map inputs_kept bare m.components
 
-leaves_known : (found : Option TypedModule) (bs : List (Kept × FirType)) → Some bs ≡ option_map bares found → flat_map leaves_kept bs ≡ leaves_of_ports found
-leaves_known None bs e = absurd (none_some (sym e))
-leaves_known (Some m) bs e = ap (flat_map leaves_kept) (some_same e) ∙ flat_map-map leaves_kept bare m.components
-
-pub inputs_unknown : (found : Option TypedModule) → None ≡ option_map bares found → [] ≡ inputs_of found
-inputs_unknown None e = refl
-inputs_unknown (Some m) e = absurd (none_some e)
-
-pub leaves_unknown : (found : Option TypedModule) → None ≡ option_map bares found → [] ≡ leaves_of_ports found
-leaves_unknown None e = refl
-leaves_unknown (Some m) e = absurd (none_some e)
-
 module _ (found : Option TypedModule) (ds items : List Declaration) (ts : List FirType) (k : ℕ) (same : ds ≡ items) (is : Some (zip (map held items) ts) ≡ option_map bares found) (past : min (length ds) (length ts) ≤ k) where
   all_zipped : zipped ds ts k ≡ zip (map held items) ts
   all_zipped = zip_mapped held ds ts k past ∙ ap (λ l. zip (map held l) ts) same
 
   pub inputs_all : (all : List Leaf) → all ≡ flat_map inputs_kept (zipped ds ts k) → all ≡ inputs_of found
   inputs_all all h = h ∙ (ap (flat_map inputs_kept) all_zipped ∙ inputs_known found (zip (map held items) ts) is)
-
-  pub leaves_all : (all : List Watched) → all ≡ flat_map leaves_kept (zipped ds ts k) → all ≡ leaves_of_ports found
-  leaves_all all h = h ∙ (ap (flat_map leaves_kept) all_zipped ∙ leaves_known found (zip (map held items) ts) is)
 
 -- one item more
 pub taken_more : {A : Type 0} (xs : List A) (k : ℕ) (x : A) → k < length xs → x ≡ get_or xs k x → take (k + 1) xs ≡ take k xs ++ x ∷ []

@@ -1,3 +1,4 @@
 -- what a reader must believe
 pub mod Settling
 pub mod Leaves
+pub mod Watching

@@ -1,9 +1,8 @@
 //! The run, cycle by cycle.
 
-ghost use Rattle.std.specs.Prelude.{◌≡◌, List as Listed, map, slice_get, option_map, option_copied, IfOk};
-ghost use Rattle.bit_words.specs.Values.{integer_of};
+ghost use Rattle.std.specs.Prelude.{◌≡◌, List as Listed, map, IfOk};
 ghost use Rattle.fir_meaning.specs.Components.{design_of};
-ghost use Rattle.fir_meaning.specs.States.{Trace, first_state};
+ghost use Rattle.fir_meaning.specs.States.{first_state};
 ghost use Rattle.circuit_laws.specs.WellFormed.{IsWellFormed};
 ghost use Rattle.drive_check.specs.Keys.{leaf_of_key};
 ghost use Rattle.plain_values.specs.declared.site.Site.{Site as ASite};
@@ -12,21 +11,25 @@ ghost use Rattle.settling_laws.specs.Runs.{value_of, row_of, Runs};
 ghost use Rattle.plain_cycle.specs.Given.{given_by, inputs_in};
 ghost use Rattle.plain_cycle.specs.Runs.{IsRun, design_in, state_of};
 ghost use Rattle.plain_run.specs.Settling.{CanSettle};
-ghost use Rattle.plain_run.specs.Leaves.{leaf_held, sinks, watched_by, watched_in};
+ghost use Rattle.plain_run.specs.Leaves.{leaf_held, watched_in};
+ghost use Rattle.plain_run.specs.Watching.{RunsWatched, ShowTrace};
 
-use crate::leaves::{MainLeaf, MainLeaves, main_leaves};
+use crate::flat_order::{RunLeaf, leaf_numbered, sites_in_order};
+use crate::leaves::main_inputs;
 use crate::settling::settled;
 use bit_words::{List, Row, Rows, Value};
+use drive_check::leaf_set::key_of;
 use fir_tree::Fitted;
+use net_of_circuit::laws::flat_orders_are_one;
 use plain_cycle::{Held, Run, lay_out, next_held};
-use plain_values::fitted_value;
 use plain_values::sights::value_on;
+use plain_values::{Site, fitted_value};
 use std::alloc::{AllocError, Global};
 
-/// What is watched of a run: some of the leaves of main's ports, by their numbers.
-#[derive(Drop)]
+/// What is watched of a run: some of its leaves, by their numbers in flat order.
+#[derive(Clone, Copy)]
 pub struct Watch<'a> {
-    pub leaves: List<MainLeaf>,
+    pub sites: &'a [Site],
     pub numbers: &'a [u32],
 }
 
@@ -34,8 +37,8 @@ pub struct Watch<'a> {
 /// by cycle (FIRRTL specification 3.0, "Last Connect Semantics", "Registers" and "Memories").
 ///
 /// A row of inputs has a value for each of main's input leaves that isn't a clock, in port order; where it has none, 0 is given. The
-/// watched leaves are named by their numbers among the leaves of main's ports, in port order from 0; a row of outputs has their values
-/// in the order of the numbers, and none for a number past the last leaf.
+/// watched leaves may be any of the run: they are named by their numbers in flat order, from 0. A row of outputs has their values in the
+/// order of the numbers, and none for a number past the last leaf; 0 stands for the value of a Clock.
 ///
 /// The circuit passed all stages. Takes time for each cycle in proportion to the square of the number of leaves, each with the
 /// statements of its block and with the components of the run for each reference in them, and memory in proportion to the leaves and to
@@ -48,13 +51,14 @@ pub fn plain_run(
 ) -> Result<Rows, AllocError>
     requires well { IsWellFormed fitted.now }
     requires settles { CanSettle fitted.now }
-    ensures run { IfOk result (λ outputs. Runs (design_of fitted.now) (watched_by (design_of fitted.now) watch.now) first_state (map (given_by (inputs_in (design_of fitted.now))) rows.now) outputs) }
-    // where the leaves of a trace are watched, the integers of the rows are the trace
-    ensures traced { watched_by (design_of fitted.now) watch.now ≡ sinks (design_of fitted.now) → IfOk result (λ outputs. Trace (design_of fitted.now) first_state (map (given_by (inputs_in (design_of fitted.now))) rows.now) (map (map integer_of) outputs)) }
+    ensures run { let design = design_of fitted.now in IfOk result (RunsWatched design watch.now first_state (map (given_by (inputs_in design)) rows.now)) }
+    ensures traced { let design = design_of fitted.now in IfOk result (ShowTrace design watch.now (map (given_by (inputs_in design)) rows.now)) }
 {
-    let MainLeaves { inputs, ports } = main_leaves(alloc, fitted)?;
+    flat_orders_are_one();
+    let inputs = main_inputs(alloc, fitted)?;
+    let sites = sites_in_order(alloc, fitted)?;
     let watch = Watch {
-        leaves: ports,
+        sites: sites.as_slice(),
         numbers: watch,
     };
     let layout = lay_out(alloc, fitted)?;
@@ -112,25 +116,25 @@ fn watched_row(
 {
     let mut row = List::new(alloc);
     for number in watch.numbers {
-        if let Some(leaf) = leaf_numbered(watch.leaves.as_slice(), *number) {
-            row.push(value_of(run, leaf, values))?;
+        if let Some(leaf) = leaf_numbered(watch.sites, *number) {
+            row.push(value_of(alloc, run, leaf, values)?)?;
         }
     }
     Ok(row)
 }
 
-/// The leaf of a number, where there is one.
-fn leaf_numbered(leaves: &[MainLeaf], number: u32) -> Option<&MainLeaf>
-    ensures { option_map leaf_held (option_copied result) ≡ slice_get (map leaf_held leaves.now) number }
+/// What a leaf of the run has, with its kind and width.
+fn value_of(
+    alloc: Global,
+    run: &Run<'_>,
+    leaf: RunLeaf<'_>,
+    values: &[List<Value>],
+) -> Result<Value, AllocError>
+    ensures { IfOk result (λ value. value ≡ value_of (valuation_of run.now.sites.now values.now) (leaf_held leaf.entry)) }
 {
-    leaves.get(number as usize)
-}
-
-/// What a leaf of main has, with its kind and width.
-fn value_of(run: &Run<'_>, leaf: &MainLeaf, values: &[List<Value>]) -> Value
-    ensures { result ≡ value_of (valuation_of run.now.sites.now values.now) (leaf_held leaf.now) }
-{
-    let way = leaf.key.way.as_slice();
-    let value = value_on(run.sites, values, &[], leaf.key.component, way);
-    fitted_value(&leaf.leaf, value)
+    let RunLeaf { site, leaf } = leaf;
+    let key = key_of(alloc, site.name, &[], leaf.path.as_slice())?;
+    let path = site.path.as_slice();
+    let value = value_on(run.sites, values, path, site.name, key.way.as_slice());
+    Ok(fitted_value(leaf, value))
 }
