@@ -7,7 +7,9 @@ pub mod made;
 pub mod making;
 pub mod table;
 pub mod tabled;
+pub mod tabled_type;
 
 pub use making::Tables;
 pub use table::{FieldTable, Inner};
 pub use tabled::Tabled;
+pub use tabled_type::TabledType;
