@@ -9,7 +9,7 @@ use fir_types::{Field, FirType, equivalent};
 use std::alloc::AllocError;
 
 /// Where a bundle's first field stands in a text.
-#[derive(Clone, Copy, PartialEq, Eq, Hash)]
+#[derive(Clone, Copy, PartialEq, Eq, PartialOrd, Ord)]
 pub struct Start {
     pub line: u32,
     pub column: u32,

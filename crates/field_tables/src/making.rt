@@ -14,15 +14,16 @@ use crate::table::{FieldTable, Inner};
 use crate::tabled::Tabled;
 use bit_words::{List, Shared};
 use fir_types::{Field, FieldIndex, FirType, Shape, copy};
-use indexmap::IndexMap;
 use std::alloc::{AllocError, Global};
+use std::collections::BTreeMap;
 
 /// Tables of types. Types that are copies of one that a text writes share its table, so all tables together take memory in proportion to
 /// the text.
 #[derive(Drop)]
 pub struct Tables {
     alloc: Global,
-    made: IndexMap<Start, Made>,
+    /// An ordered map, so that no places are slow to tell apart.
+    made: BTreeMap<Start, Made>,
 }
 
 impl Tables {
@@ -30,7 +31,7 @@ impl Tables {
     pub fn new(alloc: Global) -> Tables {
         Tables {
             alloc,
-            made: IndexMap::new(alloc),
+            made: BTreeMap::new(alloc),
         }
     }
 
