@@ -98,7 +98,7 @@ unclocked types name suffixes flip leaf has none = by (region.component == leaf.
         absurd (true≢false (sym has ∙ ap (clocked types) (sym same) ∙ none))
     by false e = apart flip region leaf e
 
-pub same_region : (r : Region) (reach : Reach) → r.component ≡ reach.component → r.typ ≡ reach.typ.now → r.ways ≡ ways_of reach.ways.items → r.dynamic ≡ reach.dynamic → bare r ≡ region_at reach
+pub same_region : (r : Region) (reach : Reach) → r.component ≡ reach.component → r.typ ≡ reach.part.typ.now → r.ways ≡ ways_of reach.ways.items → r.dynamic ≡ reach.dynamic → bare r ≡ region_at reach
 same_region r reach c t w d = λ i. record { component = c i; typ = t i; ways = w i; dynamic = d i; indices = [] }
 
 -- Elements

@@ -49,7 +49,7 @@ abbrev pub is_behind : ℕ → List PathStep → Leaf → Vec Step → Bool
 is_behind component path leaf way = same_leaf (record { component = component; way = map step_of way.items ++ path }) leaf
 
 abbrev pub region_at : Reach → Region
-region_at reach = record { component = reach.component; typ = reach.typ.now; ways = ways_of reach.ways.items; dynamic = reach.dynamic; indices = [] }
+region_at reach = record { component = reach.component; typ = reach.part.typ.now; ways = ways_of reach.ways.items; dynamic = reach.dynamic; indices = [] }
 
 -- it is this; or it has no leaves, or no way leads to it
 abbrev pub Reaches : Option Region → Option Reach → Type 0

@@ -17,7 +17,7 @@ use drive_check::leaf_set::{LeafKey, key_of};
 use drive_check::listing::list_leaves;
 use drive_check::module_types::ModuleTypes;
 use fir_tree::{Expr, Form};
-use fir_types::{TypeLeaf, has_clock};
+use fir_types::TypeLeaf;
 use std::alloc::{AllocError, Global};
 
 /// Notes what a connect drives, of the components that have Clock leaves.
@@ -57,7 +57,7 @@ fn names_clock(types: &ModuleTypes<'_>, expr: &Expr) -> bool
     ensures { (leaf : Leaf) (flip : Bool) → clocked (types_in types.now) leaf.component ≡ true → result ≡ false → may_name flip (region_of (types_in types.now) expr.now) leaf ≡ false }
 {
     match &expr.form {
-        Form::Ref(name, _) => has_clock(types.of(name.id)),
+        Form::Ref(name, _) => types.clocked(name.id),
         Form::Literal(_, _, _) | Form::Prim(_, _, _) | Form::Mux(_) => false,
     }
 }
@@ -95,7 +95,8 @@ fn drive_reach(
         then source_for side.entry.1 leaf (Some (region_at side.entry.0.now)) (map leaf_of_key sources.now)
         else driver_of drivers.old.known.entries leaf)) }
 {
-    let leaves = list_leaves(alloc, side.0.typ)?;
+    let reach = side.0;
+    let leaves = list_leaves(alloc, reach.part.typ)?;
     undrive(alloc, drivers, side, leaves.as_slice())?;
     if side.0.dynamic {
         return Ok(());

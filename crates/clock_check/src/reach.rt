@@ -11,9 +11,10 @@ ghost use Rattle.clock_check.specs.Driving.{bare, region_at, ways_of, Reaches};
 use drive_check::leaf_set::{LeafKey, Step, key_of};
 use drive_check::listing::list_leaves;
 use drive_check::module_types::ModuleTypes;
-use drive_check::spot::{element_type, field_type};
+use drive_check::spot::{to_element, to_field};
+use field_tables::Tabled;
 use fir_tree::{Expr, Form, Suffix};
-use fir_types::{FirType, Name, Shape, TypeLeaf, leaf_count};
+use fir_types::{FirType, Name, Shape, TypeLeaf};
 use std::alloc::{AllocError, Global};
 
 /// Parts of a component that have one type: the number of the component's name, the ways to them, and whether there is a dynamic
@@ -21,7 +22,7 @@ use std::alloc::{AllocError, Global};
 #[derive(Drop)]
 pub struct Reach<'a> {
     pub component: u32,
-    pub typ: &'a FirType,
+    pub part: Tabled<'a>,
     pub ways: Vec<Vec<Step>>,
     pub dynamic: bool,
 }
@@ -36,11 +37,11 @@ pub fn reach_of<'a>(
 {
     match &expr.form {
         Form::Ref(name, suffixes) => {
-            let (typ, steps) = (types.of(name.id), suffixes.as_slice());
-            if leads_nowhere(typ, steps) {
+            let (whole, steps) = (types.tabled(name.id), suffixes.as_slice());
+            if leads_nowhere(whole, steps) {
                 return Ok(None);
             }
-            if leaf_count(type_behind(typ, steps)) == 0 {
+            if part_behind(whole, steps).leaf_count() == 0 {
                 return Ok(None);
             }
             Ok(Some(follow(alloc, types, *name, steps)?))
@@ -50,14 +51,14 @@ pub fn reach_of<'a>(
 }
 
 /// Whether a dynamic index among the suffixes is one of a vector of no element.
-fn leads_nowhere(typ: &FirType, suffixes: &[Suffix]) -> bool
-    ensures { IsTrue result → (types : Scope) (id : ℕ) → types id ≡ typ.now → (follow_all types id (map suffix_onward suffixes.now)).ways ≡ [] }
+fn leads_nowhere(whole: Tabled<'_>, suffixes: &[Suffix]) -> bool
+    ensures { IsTrue result → (types : Scope) (id : ℕ) → types id ≡ whole.entry.typ.now → (follow_all types id (map suffix_onward suffixes.now)).ways ≡ [] }
 {
-    let mut found = typ;
+    let mut found = whole;
     let mut nowhere = false;
     for suffix in suffixes {
-        nowhere = nowhere || has_no_element(found, suffix);
-        found = step_type(found, suffix);
+        nowhere = nowhere || has_no_element(found.typ, suffix);
+        found = step_part(found, suffix);
     }
     nowhere
 }
@@ -72,13 +73,13 @@ fn has_no_element(typ: &FirType, suffix: &Suffix) -> bool
     }
 }
 
-/// The type that the suffixes lead to.
-fn type_behind<'a>(typ: &'a FirType, suffixes: &[Suffix]) -> &'a FirType
-    ensures { (types : Scope) (id : ℕ) → types id ≡ typ.now → (follow_all types id (map suffix_onward suffixes.now)).typ ≡ result.now }
+/// The part that the suffixes lead to.
+fn part_behind<'a>(whole: Tabled<'a>, suffixes: &[Suffix]) -> Tabled<'a>
+    ensures { (types : Scope) (id : ℕ) → types id ≡ whole.entry.typ.now → (follow_all types id (map suffix_onward suffixes.now)).typ ≡ result.typ.now }
 {
-    let mut found = typ;
+    let mut found = whole;
     for suffix in suffixes {
-        found = step_type(found, suffix);
+        found = step_part(found, suffix);
     }
     found
 }
@@ -94,7 +95,7 @@ fn follow<'a>(
 {
     let mut reach = Reach {
         component: name.id,
-        typ: types.of(name.id),
+        part: types.tabled(name.id),
         ways: no_steps(alloc)?,
         dynamic: false,
     };
@@ -119,18 +120,18 @@ fn onward<'a>(alloc: Global, reach: &Reach<'a>, suffix: &Suffix) -> Result<Reach
 {
     Ok(Reach {
         component: reach.component,
-        typ: step_type(reach.typ, suffix),
+        part: step_part(reach.part, suffix),
         ways: step_ways(alloc, reach, suffix)?,
         dynamic: reach.dynamic || is_dynamic(suffix),
     })
 }
 
-fn step_type<'a>(typ: &'a FirType, suffix: &Suffix) -> &'a FirType
-    ensures { (types : Scope) (region : Region) → region.typ ≡ typ.now → (suffix_onward suffix.now types region).typ ≡ result.now }
+fn step_part<'a>(part: Tabled<'a>, suffix: &Suffix) -> Tabled<'a>
+    ensures { (types : Scope) (region : Region) → region.typ ≡ part.entry.typ.now → (suffix_onward suffix.now types region).typ ≡ result.typ.now }
 {
     match suffix {
-        Suffix::Field(name) => field_type(typ, name.id),
-        Suffix::At(_, _, _) | Suffix::Index(_, _) => element_type(typ),
+        Suffix::Field(name) => to_field(part, name.id),
+        Suffix::At(_, _, _) | Suffix::Index(_, _) => to_element(part),
     }
 }
 
@@ -148,13 +149,13 @@ fn step_ways(
     reach: &Reach<'_>,
     suffix: &Suffix,
 ) -> Result<Vec<Vec<Step>>, AllocError>
-    ensures { IfOk result (λ ways. (types : Scope) (region : Region) → region.typ ≡ reach.now.typ.now → region.ways ≡ ways_of reach.now.ways.items → (suffix_onward suffix.now types region).ways ≡ ways_of ways.items) }
+    ensures { IfOk result (λ ways. (types : Scope) (region : Region) → region.typ ≡ reach.now.part.typ.now → region.ways ≡ ways_of reach.now.ways.items → (suffix_onward suffix.now types region).ways ≡ ways_of ways.items) }
 {
     let ways = reach.ways.as_slice();
     match suffix {
         Suffix::Field(name) => behind_all(alloc, ways, Step::Field(name.id)),
         Suffix::At(_, _, number) => behind_all(alloc, ways, Step::Element(*number)),
-        Suffix::Index(_, _) => Ok(elements(alloc, ways, vector_length(reach.typ))?),
+        Suffix::Index(_, _) => Ok(elements(alloc, ways, vector_length(reach.part.typ))?),
     }
 }
 
@@ -225,7 +226,7 @@ fn push_named(alloc: Global, keys: &mut Vec<LeafKey>, reach: &Reach<'_>) -> Resu
     if reach.dynamic {
         return Ok(());
     }
-    let leaves = list_leaves(alloc, reach.typ)?;
+    let leaves = list_leaves(alloc, reach.part.typ)?;
     for leaf in &leaves {
         push_parts(alloc, keys, reach, leaf)?;
     }

@@ -1,6 +1,6 @@
 pub mod KeyTests
 pub mod Placing
-pub mod Indexing
+pub mod Noting
 pub mod Following
 pub mod Driving
 pub mod Blocks

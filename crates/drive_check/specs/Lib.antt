@@ -5,7 +5,7 @@ pub mod Initialized
 -- what the bodies keep, and what proofs need
 pub mod Ranks
 pub mod Keys
-pub mod Indexed
+pub mod Noted
 pub mod Typing
 pub mod HeldTypes
 pub mod Spots

@@ -4,13 +4,12 @@
 
 mod covering;
 pub mod fault;
-mod indexed;
 pub mod laws;
 pub mod leaf_set;
 pub mod listing;
 pub mod module_types;
 pub mod names;
-pub mod reached;
+pub mod noted;
 pub mod spot;
 mod undriven;
 mod walk;

@@ -1,13 +1,13 @@
 //! The types of a module's components.
 
 ghost use Rattle.std.specs.Prelude.{◌≡◌, ℕ, IfOk, OnOk};
-ghost use Rattle.drive_check.specs.Indexed.{AreIndexed};
+ghost use Rattle.drive_check.specs.Noted.{AreNoted};
 ghost use Rattle.drive_check.specs.Typing.{typed, no_type, IsPlaced, with_new};
 
-use crate::indexed::indexes_of;
-use crate::reached::Reached;
+use crate::noted::{Note, notes_of};
 use bit_words::{List, Shared};
-use fir_types::{FieldIndex, FirType, Name, Shape};
+use field_tables::Tabled;
+use fir_types::{FirType, Name, Shape, has_clock};
 use indexmap::IndexMap;
 use place_text::Place;
 use std::alloc::{AllocError, Global};
@@ -19,17 +19,16 @@ pub struct ModuleTypes<'a> {
     pub numbers: IndexMap<u32, usize>,
     /// What stands for the type of a component that is none.
     pub empty: FirType,
-    /// The index of each type's fields, where there are many.
-    pub indexes: Vec<Option<Shared<FieldIndex>>>,
+    /// What is noted of the types.
+    pub notes: Vec<Note>,
     ghost is_empty: { empty ≡ no_type },
-    ghost indexed: { AreIndexed declared.now indexes.items },
+    ghost noted: { AreNoted declared.now notes.items },
 }
 
 impl<'a> ModuleTypes<'a> {
-    ghost use Rattle.std.specs.Prelude.{Some, slice_get};
-    ghost use Rattle.std.specs.Option.{ForSome};
-    ghost use Rattle.fir_types.specs.declared.fir_type.FirType.{FirType as AType};
-    ghost use Rattle.fir_types.specs.Indexes.{IsIndexOfType};
+    ghost use Rattle.std.specs.Prelude.{IfSome};
+    ghost use Rattle.fir_types.specs.Leaves.{has_clock};
+    ghost use Rattle.drive_check.specs.Noted.{IsNote};
     ghost use Rattle.drive_check.specs.HeldTypes.{types_in};
 
     /// The types of declarations with these names. Takes time and memory in proportion to their number and that of their fields.
@@ -45,12 +44,12 @@ impl<'a> ModuleTypes<'a> {
             place: Place { line: 1, column: 1 },
             shape: Shape::Bundle(Shared::new(alloc, List::new(alloc))?),
         };
-        let indexes = indexes_of(alloc, declared, names.len())?;
+        let notes = notes_of(alloc, declared, names.len())?;
         Ok(ModuleTypes {
             declared,
             numbers,
             empty,
-            indexes,
+            notes,
         })
     }
 
@@ -67,31 +66,36 @@ impl<'a> ModuleTypes<'a> {
         }
     }
 
-    /// The same, with the index of its fields where there are many.
-    pub fn reached(&self, id: u32) -> Reached<'_>
+    /// The same, with its table where there is one.
+    pub fn tabled(&self, id: u32) -> Tabled<'_>
         ensures { result.typ.now ≡ types_in self.now id }
     {
-        let Some(number) = self.numbers.get(&id) else {
-            return Reached::plain(&self.empty);
-        };
-        let Some(typ) = self.declared.get(*number) else {
-            return Reached::plain(&self.empty);
-        };
-        match self.index_at(*number) {
-            Some(index) => Reached {
-                typ,
-                index: Some(index),
-            },
-            None => Reached::plain(typ),
+        let typ = self.of(id);
+        match self.note(id) {
+            Some(note) => Tabled::new(typ, note.table.as_ref()),
+            None => Tabled::plain(typ),
         }
     }
 
-    fn index_at(&self, number: usize) -> Option<&FieldIndex>
-        ensures { (typ : AType) → slice_get self.now.declared.now number ≡ Some typ → ForSome result (λ index. IsIndexOfType typ index.now) }
+    /// Whether a leaf of the component of a name is a `Clock`. Takes constant time.
+    pub fn clocked(&self, id: u32) -> bool
+        ensures { result ≡ has_clock (types_in self.now id) }
     {
-        match self.indexes.get(number) {
-            Some(Some(index)) => Some(index.get()),
-            Some(None) | None => None,
+        match self.note(id) {
+            Some(note) => note.clocked,
+            None => has_clock(self.of(id)),
+        }
+    }
+
+    /// What is noted of the type of the component of a name.
+    fn note(&self, id: u32) -> Option<&Note>
+        ensures { IfSome result (λ note. IsNote (types_in self.now id) note.now) }
+    {
+        let number = *self.numbers.get(&id)?;
+        if number < self.declared.len() {
+            self.notes.get(number)
+        } else {
+            None
         }
     }
 }

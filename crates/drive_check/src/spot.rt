@@ -8,8 +8,9 @@ ghost use Rattle.drive_check.specs.Spots.{Names, Leads};
 
 use crate::leaf_set::Step;
 use crate::module_types::ModuleTypes;
+use field_tables::Tabled;
 use fir_tree::{Expr, Form, Suffix};
-use fir_types::{FirType, Name, Shape, field_of};
+use fir_types::{FirType, Name};
 use std::alloc::{AllocError, Global};
 
 /// A part of a component: the number of the component's name, the way to the part, and its type.
@@ -43,22 +44,22 @@ fn follow<'a>(
 ) -> Result<Option<Spot<'a>>, AllocError>
     ensures { IfOk result (λ spot. Leads (follow_all (types_in types.now) name.id (map suffix_onward suffixes.now)) spot) }
 {
-    let mut reached = types.reached(name.id);
+    let mut reached = types.tabled(name.id);
     let mut way = Vec::new(alloc);
     let mut dynamic = false;
     for suffix in suffixes {
         match suffix {
             Suffix::Field(field) => {
                 way.push(Step::Field(field.id))?;
-                reached = reached.field(field.id);
+                reached = to_field(reached, field.id);
             }
             Suffix::At(_, _, number) => {
                 way.push(Step::Element(*number))?;
-                reached = reached.element();
+                reached = to_element(reached);
             }
             Suffix::Index(_, _) => {
                 dynamic = true;
-                reached = reached.element();
+                reached = to_element(reached);
             }
         }
     }
@@ -72,25 +73,22 @@ fn follow<'a>(
     }))
 }
 
-/// The type of a bundle's first field of a name. What has no such field stays.
-pub fn field_type(typ: &FirType, id: u32) -> &FirType
-    ensures { result.now ≡ field_type id typ.now }
+/// The first field of a name. What has no such field stays.
+pub fn to_field<'a>(reached: Tabled<'a>, id: u32) -> Tabled<'a>
+    ensures { result.typ.now ≡ field_type id reached.entry.typ.now }
 {
-    let Shape::Bundle(fields) = &typ.shape else {
-        return typ;
-    };
-    match field_of(fields.as_slice(), id) {
-        Some(field) => &field.typ,
-        None => typ,
+    match reached.field(id) {
+        Some(part) => part,
+        None => reached,
     }
 }
 
-/// The type of a vector's elements. What is no vector stays.
-pub fn element_type(typ: &FirType) -> &FirType
-    ensures { result.now ≡ element_type typ.now }
+/// An element. What is no vector stays.
+pub fn to_element<'a>(reached: Tabled<'a>) -> Tabled<'a>
+    ensures { result.typ.now ≡ element_type reached.entry.typ.now }
 {
-    match &typ.shape {
-        Shape::Vector(element, _) => element.get(),
-        _ => typ,
+    match reached.element() {
+        Some(part) => part,
+        None => reached,
     }
 }

@@ -1,5 +1,5 @@
 -- Parts of types: where their leaves stand.
-use Rattle.std.proofs.Common.{◌≡◌, ℕ, zero, suc, ◌<◌, ◌+◌, ◌*◌, Bool, true, false, List, [], ◌∷◌, ◌++◌, map, length, find, option_map, refl, sym, ap, ap₂, ◌∙◌, subst, arith, ◌==◌, ◌&&◌, if◌then◌else◌, Some, slice_get}
+use Rattle.std.proofs.Common.{◌≡◌, ℕ, zero, suc, ◌<◌, ◌+◌, ◌*◌, Bool, true, false, List, [], ◌∷◌, ◌++◌, map, length, find, Option, option_map, refl, sym, ap, ap₂, ◌∙◌, subst, arith, ◌==◌, ◌&&◌, if◌then◌else◌, Some, None, slice_get}
 use Rattle.std.specs.List.{flat_map, list_all}
 use Rattle.std.proofs.lemmas.Grind.{common_steps}
 use Rattle.std.proofs.lemmas.Bool.Decides.{nat_tests}
@@ -18,7 +18,9 @@ use Rattle.fir_types.proofs.Layers.{leaves-bundle, leaves-vector, leaves-field, 
 use Rattle.fir_meaning.specs.Values.{field_of_shape, element_of_shape, vector_length}
 use Rattle.ground_exprs.specs.Numbers.{IsInside, narrow_field}
 use Rattle.fir_meaning.specs.WellTyped.{is_narrow}
-use Rattle.ground_exprs.specs.Fields.{leaves_before}
+use Rattle.field_tables.specs.Before.{leaves_before}
+use Rattle.field_tables.specs.Fits.{fields_in}
+use Rattle.field_tables.proofs.Parts.{fields_of}
 use Rattle.ground_net.proofs.Shaping.{both_true}
 use Rattle.ground_exprs.proofs.Members.{none_some, some_same}
 
@@ -133,5 +135,20 @@ element-of t e n is = grind (arith, common_steps, the_lemmas)
 pub length-of : (t e : FirType) (n : ℕ) → t.shape ≡ shape.Vector e n → vector_length t ≡ n
 length-of t e n is = grind (arith, common_steps, the_lemmas)
 
-pub bundle_told : (fs gs : List Field) (id : ℕ) (f : Field) → gs ≡ fs → Some f ≡ find (λ g. g.name.id == id) gs → find (λ g. g.name.id == id) fs ≡ Some f
-bundle_told fs gs id f e h = ap (find (λ g. g.name.id == id)) (sym e) ∙ sym h
+field_at : (o : Option Field) (inner : FirType) → Some inner ≡ option_map (λ f. f.typ) o → (f : Field) × (o ≡ Some f) × (f.typ ≡ inner)
+field_at (Some f) inner e = (f, refl, some_same (sym e))
+field_at None inner e = absurd (none_some (sym e))
+
+-- the field that a table leads to
+pub inside_found : (t : FirType) (fs : List Field) (id before : ℕ) (inner : FirType) → t.shape ≡ shape.Bundle fs
+    → Some inner ≡ option_map (λ f. f.typ) (find (λ g. g.name.id == id) (fields_in (out-Shape t.shape))) → before ≡ leaves_before id (fields_in (out-Shape t.shape))
+    → IsInside t (step.Field id) inner before
+inside_found t fs id before inner is found n =
+    let r = field_at (find (λ g. g.name.id == id) (fields_in (out-Shape t.shape))) inner found in
+    subst (λ x. IsInside t (step.Field id) x before) r.2
+    (inside_field t fs id r.0 before is (ap (find (λ g. g.name.id == id)) (sym (fields_of t fs is)) ∙ r.1) (n ∙ ap (leaves_before id) (fields_of t fs is)))
+
+pub type_found : (t : FirType) (fs : List Field) (id : ℕ) (found : Option FirType) → t.shape ≡ shape.Bundle fs
+    → found ≡ option_map (λ f. f.typ) (find (λ g. g.name.id == id) (fields_in (out-Shape t.shape))) → field_of_shape id (out-Shape t.shape) ≡ found
+type_found t fs id found is e =
+    field-of t fs id is ∙ ap (λ l. option_map (λ f. f.typ) (find (λ g. g.name.id == id) l)) (sym (fields_of t fs is)) ∙ sym e

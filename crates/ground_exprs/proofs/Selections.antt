@@ -18,7 +18,7 @@ use Rattle.ground_net.specs.Grounds.{Instant, value, mentions, or_zero, element_
 use Rattle.ground_net.specs.Numbers.{listed}
 use Rattle.ground_net.proofs.Listing.{flat_length, flat_at}
 use Rattle.ground_net.proofs.Layers.{values, all_mentions, value-Leaf, value-Indexed, mentions-Leaf, mentions-Indexed}
-use Rattle.ground_net.specs.Shapes.{Shape, shaped, Table, shape, same_shape, same_kind, is_unsigned, is_index, all_of, shape_of_items, are_index_shapes, shape_of_indexed}
+use Rattle.ground_net.specs.Shapes.{Shape, shaped, Table, shape, same_shape, same_kind, is_unsigned, all_of, shape_of_items, are_index_shapes, shape_of_indexed}
 use Rattle.ground_net.specs.Cycles.{integer_at}
 use Rattle.ground_net.proofs.Shaping.{shapes_of, shape-Leaf, shape-Indexed, both_true}
 use Rattle.ground_exprs.specs.declared.part.Pick.{Pick}

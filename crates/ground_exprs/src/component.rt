@@ -1,10 +1,10 @@
 //! Components, by the numbers of their leaves.
 
-use fir_types::FirType;
+use field_tables::TabledType;
 
-/// A component: its type, and the number of its first leaf.
+/// A component: its type with its table, and the number of its first leaf.
 #[derive(Drop)]
 pub struct Component {
-    pub typ: FirType,
+    pub typ: TabledType,
     pub first: u32,
 }

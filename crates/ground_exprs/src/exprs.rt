@@ -13,14 +13,14 @@ use crate::component::Component;
 use crate::constants::{constant, width_of};
 use crate::inside::to_elements;
 use crate::operation::{lone, operation};
-use crate::part::{Part, Pick};
+use crate::part::Pick;
 use crate::part_sources::sources_of;
 use crate::source::Source;
 use crate::stepping::{indexed, whole};
 use crate::views::{View, enter_element, enter_field};
 use bit_words::{Kind, List, Number};
 use fir_tree::{Expr, Form, Suffix};
-use fir_types::{FirType, Name};
+use fir_types::Name;
 use ground_net::Ground;
 use indexmap::IndexMap;
 use std::alloc::{AllocError, Global};
@@ -41,7 +41,7 @@ pub fn lower_expr(
     match &expr.form {
         Form::Ref(name, suffixes) => {
             let view = follow(alloc, known, *name, suffixes.as_slice())?;
-            let sources = sources_of(alloc, view.typ, &view.part)?;
+            let sources = sources_of(alloc, view.at.typ, &view.part)?;
             Ok(sources)
         }
         Form::Literal(kind, width, number) => {
@@ -111,17 +111,17 @@ pub fn follow<'a>(
 ) -> Result<View<'a>, AllocError>
     requires narrow { AreNarrow known.now.entries }
     requires typed { IsSome (typed_form (Form-F.Ref name (map typed_step suffixes.now)) (known_of known.now.entries)) }
-    ensures { IfOk result (λ view. Leads known.now.entries name.id suffixes.now view.typ.now view.part) }
+    ensures { IfOk result (λ view. Leads known.now.entries name.id suffixes.now view.at.typ.now view.part) }
 {
     let Some(component) = known.get(&name.id) else {
         unreachable!();
     };
     let mut view = View {
-        typ: &component.typ,
+        at: component.typ.tabled(),
         part: whole(alloc, component.first),
     };
     for suffix in suffixes {
-        view = step(alloc, known, suffix, view.typ, view.part)?;
+        view = step(alloc, known, suffix, view)?;
     }
     Ok(view)
 }
@@ -132,33 +132,32 @@ fn step<'a>(
     alloc: Global,
     known: &IndexMap<u32, Component>,
     suffix: &Suffix,
-    typ: &'a FirType,
-    part: Part,
+    view: View<'a>,
 ) -> Result<View<'a>, AllocError>
     requires narrow { AreNarrow known.now.entries }
-    requires typed { IsSome (typed_step suffix.now (known_of known.now.entries) typ.now) }
-    ensures { IfOk result (λ view. Steps known.now.entries suffix.now typ.now part view.typ.now view.part) }
+    requires typed { IsSome (typed_step suffix.now (known_of known.now.entries) view.at.typ.now) }
+    ensures { IfOk result (λ next. Steps known.now.entries suffix.now view.entry.at.typ.now view.entry.part next.at.typ.now next.part) }
 {
     match suffix {
         Suffix::Field(name) => {
-            let view = enter_field(typ, part, name.id)?;
-            Ok(view)
+            let next = enter_field(view.at, view.part, name.id)?;
+            Ok(next)
         }
         Suffix::At(_, _, number) => {
-            let view = enter_element(typ, part, *number)?;
-            Ok(view)
+            let next = enter_element(view.at, view.part, *number)?;
+            Ok(next)
         }
         Suffix::Index(_, index) => {
-            let elements = to_elements(typ)?;
+            let elements = to_elements(view.at)?;
             let source = lone(lower_expr(alloc, known, index)?);
             let pick = Pick {
                 index: source.expr,
                 length: elements.length,
                 stride: elements.stride,
             };
-            let part = indexed(part, pick)?;
+            let part = indexed(view.part, pick)?;
             Ok(View {
-                typ: elements.typ,
+                at: elements.at,
                 part,
             })
         }

@@ -10,41 +10,38 @@ ghost use Rattle.ground_exprs.specs.Views.{Moves};
 use crate::inside::{to_elements, to_field};
 use crate::part::Part;
 use crate::stepping::{moved, moved_to};
-use fir_types::FirType;
+use field_tables::Tabled;
 use std::alloc::AllocError;
 
 /// A part of a component with its type.
 #[derive(Drop)]
 pub struct View<'a> {
-    pub typ: &'a FirType,
+    pub at: Tabled<'a>,
     pub part: Part,
 }
 
 /// The field of a name.
-pub fn enter_field<'a>(typ: &'a FirType, part: Part, id: u32) -> Result<View<'a>, AllocError>
-    requires { IsSome (field_of_shape id (out-Shape typ.now.shape)) }
-    ensures typ { IfOk result (λ view. field_of_shape id (out-Shape typ.now.shape) ≡ Some view.typ.now) }
-    ensures part { IfOk result (λ view. Moves typ.now (step.Field id) part view.typ.now view.part) }
+pub fn enter_field<'a>(at: Tabled<'a>, part: Part, id: u32) -> Result<View<'a>, AllocError>
+    requires { IsSome (field_of_shape id (out-Shape at.typ.now.shape)) }
+    ensures typ { IfOk result (λ view. field_of_shape id (out-Shape at.entry.typ.now.shape) ≡ Some view.at.typ.now) }
+    ensures part { IfOk result (λ view. Moves at.entry.typ.now (step.Field id) part view.at.typ.now view.part) }
 {
-    let inner = to_field(typ, id)?;
+    let inner = to_field(at, id)?;
     let part = moved(part, inner.before)?;
-    Ok(View {
-        typ: inner.typ,
-        part,
-    })
+    Ok(View { at: inner.at, part })
 }
 
 /// The element of a number.
-pub fn enter_element<'a>(typ: &'a FirType, part: Part, number: u128) -> Result<View<'a>, AllocError>
-    requires vector { IsSome (element_of_shape (out-Shape typ.now.shape)) }
-    requires within { number < vector_length typ.now }
-    ensures typ { IfOk result (λ view. element_of_shape (out-Shape typ.now.shape) ≡ Some view.typ.now) }
-    ensures part { IfOk result (λ view. Moves typ.now (step.Element number) part view.typ.now view.part) }
+pub fn enter_element<'a>(at: Tabled<'a>, part: Part, number: u128) -> Result<View<'a>, AllocError>
+    requires vector { IsSome (element_of_shape (out-Shape at.typ.now.shape)) }
+    requires within { number < vector_length at.typ.now }
+    ensures typ { IfOk result (λ view. element_of_shape (out-Shape at.entry.typ.now.shape) ≡ Some view.at.typ.now) }
+    ensures part { IfOk result (λ view. Moves at.entry.typ.now (step.Element number) part view.at.typ.now view.part) }
 {
-    let elements = to_elements(typ)?;
+    let elements = to_elements(at)?;
     let part = moved_to(part, number, elements.stride)?;
     Ok(View {
-        typ: elements.typ,
+        at: elements.at,
         part,
     })
 }

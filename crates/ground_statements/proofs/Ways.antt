@@ -28,7 +28,7 @@ use Rattle.fir_meaning.specs.Values.{field_of_shape, element_of_shape, vector_le
 use Rattle.fir_meaning.specs.Mentions as reads
 use Rattle.fir_meaning.specs.Mentions.{Scope, Region, mentions, behind_each, elements_behind, suffix_onward, follow_all, whole_region}
 use Rattle.ground_exprs.specs.Numbers.{IsInside}
-use Rattle.ground_exprs.specs.Fields.{leaves_before}
+use Rattle.field_tables.specs.Before.{leaves_before}
 use Rattle.ground_exprs.proofs.Members.{none_some, some_same, only_one, from_map, from_flat_map, from_range}
 use Rattle.ground_exprs.proofs.Insides.{inside_field, inside_element, length-of}
 

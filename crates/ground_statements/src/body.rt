@@ -12,7 +12,6 @@ use crate::connects::{connect, invalidate};
 use crate::nodes::node;
 use bit_words::List;
 use fir_tree::{Arm, Stmt};
-use fir_types::leaf_count;
 use ground_exprs::operation::lone;
 use ground_exprs::reading::{as_number, sum_of};
 use ground_exprs::{Component, Source, lower_expr};
@@ -158,7 +157,7 @@ fn behind_component(
 {
     match known.get(&name) {
         Some(component) => {
-            let count = as_number(leaf_count(&component.typ))?;
+            let count = as_number(component.typ.tabled().leaf_count())?;
             let behind = sum_of(before, count)?;
             Ok(behind)
         }

@@ -83,7 +83,7 @@ fn half(
     let side = Side {
         settable: view.settable,
         flip,
-        typ: named.typ,
+        typ: named.at.typ,
         part: &named.part,
     };
     let made = set_side(alloc, side, sources)?;

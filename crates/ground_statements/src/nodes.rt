@@ -20,7 +20,7 @@ pub fn node(
 ) -> Result<List<GroundStmt>, AllocError>
     ensures { IfOk result (λ made. IsNode component.now.typ component.now.first sources made) }
 {
-    let listed = leaves_of(alloc, &component.typ)?;
+    let listed = leaves_of(alloc, component.typ.get())?;
     let made = set_node(alloc, listed.as_slice(), component.first, sources)?;
     Ok(made)
 }

@@ -4,7 +4,7 @@ ghost use Rattle.std.specs.Prelude.{◌≡◌, IfOk, OnOk};
 ghost use Rattle.lower_aggregates.specs.Views.{KnowsPieces, with_new};
 
 use crate::pieces::Piece;
-use fir_types::copy;
+use field_tables::{TabledType, Tables};
 use ground_exprs::Component;
 use indexmap::IndexMap;
 use std::alloc::{AllocError, Global};
@@ -17,19 +17,24 @@ pub fn components_of(
     ensures { IfOk result (λ known. KnowsPieces pieces.now known.entries) }
 {
     let mut known = IndexMap::new(alloc);
+    let mut tables = Tables::new(alloc);
     for piece in pieces {
-        insert_new(&mut known, piece)?;
+        insert_new(&mut known, &mut tables, piece)?;
     }
     Ok(known)
 }
 
 /// Notes where a component stands, unless one of its name is known.
-fn insert_new(known: &mut IndexMap<u32, Component>, piece: &Piece<'_>) -> Result<(), AllocError>
+fn insert_new(
+    known: &mut IndexMap<u32, Component>,
+    tables: &mut Tables,
+    piece: &Piece<'_>,
+) -> Result<(), AllocError>
     ensures { OnOk result (known.new.entries ≡ with_new known.old.entries piece.now) }
 {
     if known.get(&piece.name.id).is_none() {
         let component = Component {
-            typ: copy(piece.typ)?,
+            typ: TabledType::new(tables, piece.typ)?,
             first: piece.first,
         };
         known.insert(piece.name.id, component)?;

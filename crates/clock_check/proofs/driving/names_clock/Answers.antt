@@ -9,4 +9,4 @@ use Rattle.clock_check.proofs.driving.names_clock.Goals as goal
 pub returns-in-Ref : goal.returns-in-Ref
 returns-in-Ref c = λ leaf flip has none.
     ap (λ o. may_name flip o leaf) (region_is (types_in c.args.types.now) c.args.expr.now c.in-Ref.name c.in-Ref.field-1 c.in-Ref.is)
-    ∙ unclocked (types_in c.args.types.now) c.in-Ref.name.id c.in-Ref.field-1 flip leaf has (ap (λ t. list_any is_clock (leaves t)) (sym c.of.ensures) ∙ sym c.has_clock.ensures ∙ none)
+    ∙ unclocked (types_in c.args.types.now) c.in-Ref.name.id c.in-Ref.field-1 flip leaf has (sym c.clocked.ensures ∙ none)

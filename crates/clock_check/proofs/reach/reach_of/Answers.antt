@@ -12,11 +12,11 @@ returns-then-leaf_count-eq0 c =
     let types = types_in c.args.types.now in
     let region = follow_all types c.in-Ref.name.id (map suffix_onward c.as_slice-steps.result.now) in
     reach_none (region_of types c.args.expr.now) region (region_is types c.args.expr.now c.in-Ref.name c.as_slice-steps.result.now (search rules))
-    (inl (ap leaves (c.type_behind.ensures types c.in-Ref.name.id (sym c.of-typ.ensures)) ∙ no_leaves c.type_behind.result.now (grind (arith, common_steps))))
+    (inl (ap leaves (c.part_behind.ensures types c.in-Ref.name.id (sym c.tabled-whole.ensures)) ∙ no_leaves c.part_behind.result.typ.now (grind (arith, common_steps))))
 
 pub returns-then-leads_nowhere : goal.returns-then-leads_nowhere
 returns-then-leads_nowhere c =
     let types = types_in c.args.types.now in
     let region = follow_all types c.in-Ref.name.id (map suffix_onward c.as_slice-steps.result.now) in
     reach_none (region_of types c.args.expr.now) region (region_is types c.args.expr.now c.in-Ref.name c.as_slice-steps.result.now (search rules))
-    (inr (c.leads_nowhere.ensures (search rules) types c.in-Ref.name.id (sym c.of-typ.ensures)))
+    (inr (c.leads_nowhere.ensures (search rules) types c.in-Ref.name.id (sym c.tabled-whole.ensures)))

@@ -1,4 +1,4 @@
-use Rattle.std.proofs.Common.{◌≡◌, ◌∙◌, sym, subst, refl, true, rules, arith, length, map}
+use Rattle.std.proofs.Common.{◌≡◌, ◌∙◌, sym, subst, refl, true, [], rules, arith, length, map}
 use Rattle.fir_tree.specs.declared.expr.Expr.{the_lemmas}
 use Rattle.std.specs.Prelude.{IsSome}
 use Rattle.std.specs.List.{list_all}
@@ -16,26 +16,28 @@ pub follow-unreachable-requires : goal.follow-unreachable-requires
 follow-unreachable-requires t c = name_known c.args.known.now.entries c.args.name c.args.suffixes.now c.requires.typed (sym c.in_default.ensures.value)
 
 pub follow-loop-suffix-init : goal.follow-loop-suffix-init
-follow-loop-suffix-init t c = leads_whole c.args.known.now.entries c.args.name.id c.in-Some.component.now c.whole.result c.requires.narrow (sym c.in-Some.ensures.value) c.whole.ensures
+follow-loop-suffix-init t c =
+    subst (λ typ. Leads c.args.known.now.entries c.args.name.id [] typ c.whole.result) (sym c.tabled.ensures)
+    (leads_whole c.args.known.now.entries c.args.name.id c.in-Some.component.now c.whole.result c.requires.narrow (sym c.in-Some.ensures.value) c.whole.ensures)
 
 pub follow-step-requires : goal.follow-step-requires
 follow-step-requires t c = (
   search (rules, the_lemmas, c.suffix-item.is),
   (
     c.requires.narrow,
-    step_typed c.args.known.now.entries c.args.name c.args.suffixes.now c.loop-suffix.suffix-index c.suffix-item.result c.loop-suffix.view.typ.now c.loop-suffix.view.part
+    step_typed c.args.known.now.entries c.args.name c.args.suffixes.now c.loop-suffix.suffix-index c.suffix-item.result c.loop-suffix.view.at.typ.now c.loop-suffix.view.part
         c.loop-suffix-test.true c.suffix-item.is c.requires.typed c.loop-suffix.invariant,
   ),
 )
 
 pub follow-loop-suffix-preserved : goal.follow-loop-suffix-preserved
 follow-loop-suffix-preserved t c =
-    leads_more c.args.known.now.entries c.args.name.id c.args.suffixes.now c.loop-suffix.suffix-index c.suffix-item.result c.loop-suffix.view.typ.now c.in_ok-view.view.typ.now
+    leads_more c.args.known.now.entries c.args.name.id c.args.suffixes.now c.loop-suffix.suffix-index c.suffix-item.result c.loop-suffix.view.at.typ.now c.in_ok-view.view.at.typ.now
     c.loop-suffix.view.part c.in_ok-view.view.part c.loop-suffix-test.true c.suffix-item.is c.loop-suffix.invariant c.in_ok-view.ensures
 
 pub follow-returns : goal.follow-returns
 follow-returns t c =
-    subst (λ ss. Leads c.args.known.now.entries c.args.name.id ss c.loop-suffix.view.typ.now c.loop-suffix.view.part) (take_whole c.args.suffixes.now c.loop-suffix.suffix-index c.loop-suffix-test.false)
+    subst (λ ss. Leads c.args.known.now.entries c.args.name.id ss c.loop-suffix.view.at.typ.now c.loop-suffix.view.part) (take_whole c.args.suffixes.now c.loop-suffix.suffix-index c.loop-suffix-test.false)
     c.loop-suffix.invariant
 
 pub lower_choice-lone-condition-requires : goal.lower_choice-lone-condition-requires
@@ -74,7 +76,7 @@ lower_expr-operation-requires t c =
 
 pub lower_expr-returns-in_ok-sources-in-Ref : goal.lower_expr-returns-in_ok-sources-in-Ref
 lower_expr-returns-in_ok-sources-in-Ref t c =
-    ref_lowers c.args.known.now.entries c.args.expr.now c.in-Ref.name c.in-Ref.suffixes c.as_slice.result.now c.in_ok-view-in-Ref.view.typ.now c.in_ok-view-in-Ref.view.part c.in_ok-sources-in-Ref.sources
+    ref_lowers c.args.known.now.entries c.args.expr.now c.in-Ref.name c.in-Ref.suffixes c.as_slice.result.now c.in_ok-view-in-Ref.view.at.typ.now c.in_ok-view-in-Ref.view.part c.in_ok-sources-in-Ref.sources
     c.in-Ref.is c.as_slice.ensures c.in_ok-view-in-Ref.ensures c.in_ok-sources-in-Ref.ensures
 
 pub lower_expr-returns-in_ok-sources-in-Literal : goal.lower_expr-returns-in_ok-sources-in-Literal
@@ -98,31 +100,31 @@ step-lower_expr-requires t c = (
   search (rules, the_lemmas, c.in-Index.is),
   (
     c.requires.narrow,
-    unsigned_some (typed c.in-Index.index (known_of c.args.known.now.entries)) (index_asked (known_of c.args.known.now.entries) c.args.suffix.now c.in-Index.field-0 c.in-Index.index c.args.typ.now c.in-Index.is c.requires.typed).0,
+    unsigned_some (typed c.in-Index.index (known_of c.args.known.now.entries)) (index_asked (known_of c.args.known.now.entries) c.args.suffix.now c.in-Index.field-0 c.in-Index.index c.args.view.at.typ.now c.in-Index.is c.requires.typed).0,
   ),
 )
 
 pub step-lone-source-requires : goal.step-lone-source-requires
 step-lone-source-requires t c =
     unsigned_lone (typed c.in-Index.index (known_of c.args.known.now.entries)) c.in_ok-lower_expr-in-Index.field-0
-    (index_asked (known_of c.args.known.now.entries) c.args.suffix.now c.in-Index.field-0 c.in-Index.index c.args.typ.now c.in-Index.is c.requires.typed).0 c.in_ok-lower_expr-in-Index.ensures.typed
+    (index_asked (known_of c.args.known.now.entries) c.args.suffix.now c.in-Index.field-0 c.in-Index.index c.args.view.at.typ.now c.in-Index.is c.requires.typed).0 c.in_ok-lower_expr-in-Index.ensures.typed
 
-pub step-returns-in_ok-view-in-Field : goal.step-returns-in_ok-view-in-Field
-step-returns-in_ok-view-in-Field t c =
-    steps_field c.args.known.now.entries c.args.suffix.now c.in-Field.name c.args.typ.now c.in_ok-view-in-Field.view.typ.now c.args.part c.in_ok-view-in-Field.view.part c.in-Field.is
-    c.in_ok-view-in-Field.ensures.typ c.in_ok-view-in-Field.ensures.part
+pub step-returns-in_ok-next-in-Field : goal.step-returns-in_ok-next-in-Field
+step-returns-in_ok-next-in-Field t c =
+    steps_field c.args.known.now.entries c.args.suffix.now c.in-Field.name c.args.view.at.typ.now c.in_ok-next-in-Field.next.at.typ.now c.args.view.part c.in_ok-next-in-Field.next.part c.in-Field.is
+    c.in_ok-next-in-Field.ensures.typ c.in_ok-next-in-Field.ensures.part
 
-pub step-returns-in_ok-view-in-At : goal.step-returns-in_ok-view-in-At
-step-returns-in_ok-view-in-At t c =
-    steps_at c.args.known.now.entries c.args.suffix.now c.in-At.field-0 c.in-At.field-1 c.in-At.number c.args.typ.now c.in_ok-view-in-At.view.typ.now c.args.part c.in_ok-view-in-At.view.part c.in-At.is
-    (at_asked (known_of c.args.known.now.entries) c.args.suffix.now c.in-At.field-0 c.in-At.field-1 c.in-At.number c.args.typ.now c.in-At.is c.requires.typed).0
-    c.in_ok-view-in-At.ensures.typ c.in_ok-view-in-At.ensures.part
+pub step-returns-in_ok-next-in-At : goal.step-returns-in_ok-next-in-At
+step-returns-in_ok-next-in-At t c =
+    steps_at c.args.known.now.entries c.args.suffix.now c.in-At.field-0 c.in-At.field-1 c.in-At.number c.args.view.at.typ.now c.in_ok-next-in-At.next.at.typ.now c.args.view.part c.in_ok-next-in-At.next.part c.in-At.is
+    (at_asked (known_of c.args.known.now.entries) c.args.suffix.now c.in-At.field-0 c.in-At.field-1 c.in-At.number c.args.view.at.typ.now c.in-At.is c.requires.typed).0
+    c.in_ok-next-in-At.ensures.typ c.in_ok-next-in-At.ensures.part
 
 pub step-returns-in_ok-part-in-Index : goal.step-returns-in_ok-part-in-Index
 step-returns-in_ok-part-in-Index t c =
-    steps_index c.args.known.now.entries c.args.suffix.now c.in-Index.field-0 c.in-Index.index c.args.typ.now c.in_ok-elements-in-Index.elements.typ.now c.args.part c.in_ok-part-in-Index.part c.lone-source.result
+    steps_index c.args.known.now.entries c.args.suffix.now c.in-Index.field-0 c.in-Index.index c.args.view.at.typ.now c.in_ok-elements-in-Index.elements.at.typ.now c.args.view.part c.in_ok-part-in-Index.part c.lone-source.result
     (record { index = c.lone-source.result.expr; length = c.in_ok-elements-in-Index.elements.length; stride = c.in_ok-elements-in-Index.elements.stride }) c.in-Index.is
-    (index_asked (known_of c.args.known.now.entries) c.args.suffix.now c.in-Index.field-0 c.in-Index.index c.args.typ.now c.in-Index.is c.requires.typed).0
+    (index_asked (known_of c.args.known.now.entries) c.args.suffix.now c.in-Index.field-0 c.in-Index.index c.args.view.at.typ.now c.in-Index.is c.requires.typed).0
     (subst (IsLowered c.args.known.now.entries c.in-Index.index) c.lone-source.ensures c.in_ok-lower_expr-in-Index.ensures)
     c.in_ok-elements-in-Index.ensures.typ c.in_ok-elements-in-Index.ensures.length refl c.in_ok-elements-in-Index.ensures.inside
-    (narrow_element c.args.typ.now c.in_ok-elements-in-Index.elements.typ.now c.in_ok-elements-in-Index.ensures.typ) c.in_ok-part-in-Index.ensures.first c.in_ok-part-in-Index.ensures.picks
+    (narrow_element c.args.view.at.typ.now c.in_ok-elements-in-Index.elements.at.typ.now c.in_ok-elements-in-Index.ensures.typ) c.in_ok-part-in-Index.ensures.first c.in_ok-part-in-Index.ensures.picks

@@ -1,4 +1,4 @@
-use Rattle.std.proofs.Common.{◌≡◌, sym, ◌∙◌, ap}
+use Rattle.std.proofs.Common.{sym, ◌∙◌, ap}
 use Rattle.ground_net.specs.Numbers.{listed}
 use Rattle.ground_exprs.proofs.Selections.{listed_choices, no_choices}
 use Rattle.ground_exprs.proofs.reading.numbers_of.Goals as goal

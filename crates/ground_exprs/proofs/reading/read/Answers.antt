@@ -1,4 +1,4 @@
-use Rattle.std.proofs.Common.{◌≡◌, sym, subst}
+use Rattle.std.proofs.Common.{sym, subst}
 use Rattle.ground_net.specs.declared.ground.Ground.TheVariants.{Leaf}
 use Rattle.ground_exprs.specs.Parts.{IsRead}
 use Rattle.ground_exprs.proofs.Selections.{read_leaf, read_indexed, no_picks}
