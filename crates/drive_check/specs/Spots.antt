@@ -6,7 +6,7 @@ use Rattle.drive_check.specs.declared.spot.Spot.{Spot}
 use Rattle.drive_check.specs.Keys.{step_of}
 
 abbrev pub region_at : Spot → Region
-region_at spot = record { component = spot.component; typ = spot.typ.now; ways = map step_of spot.way.items ∷ []; dynamic = false; indices = [] }
+region_at spot = record { component = spot.component; typ = spot.part.typ.now; ways = map step_of spot.way.items ∷ []; dynamic = false; indices = [] }
 
 -- it is this part, and where there is none it has a dynamic index
 abbrev pub Leads : Region → Option Spot → Type 0

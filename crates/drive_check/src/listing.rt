@@ -4,6 +4,7 @@ ghost use Rattle.std.specs.Prelude.{◌≡◌, ◌++◌, map, IfOk, OnOk};
 ghost use Rattle.fir_types.specs.Leaves.{leaves, under};
 
 use bit_words::List;
+use field_tables::Tabled;
 use fir_types::{FirType, PathStep, Shape, TypeLeaf, copy, leaf_count};
 use std::alloc::{AllocError, Global};
 
@@ -19,6 +20,16 @@ pub fn list_leaves(alloc: Global, typ: &FirType) -> Result<Vec<TypeLeaf>, AllocE
     };
     listing.push_leaves(false, typ)?;
     Ok(listing.listed)
+}
+
+/// The same of a type with its table. What has no leaf is passed over.
+pub fn list_part(alloc: Global, part: Tabled<'_>) -> Result<Vec<TypeLeaf>, AllocError>
+    ensures { IfOk result (λ listed. listed.items ≡ leaves part.entry.typ.now) }
+{
+    if part.leaf_count() == 0 {
+        return Ok(Vec::new(alloc));
+    }
+    list_leaves(alloc, part.typ)
 }
 
 /// The leaves that are listed, and the path to the part that comes next.

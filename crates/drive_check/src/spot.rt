@@ -18,7 +18,7 @@ use std::alloc::{AllocError, Global};
 pub struct Spot<'a> {
     pub component: u32,
     pub way: Vec<Step>,
-    pub typ: &'a FirType,
+    pub part: Tabled<'a>,
 }
 
 /// What an expression names, where it is a reference without a dynamic index.
@@ -69,7 +69,7 @@ fn follow<'a>(
     Ok(Some(Spot {
         component: name.id,
         way,
-        typ: reached.typ,
+        part: reached,
     }))
 }
 
@@ -91,4 +91,18 @@ pub fn to_element<'a>(reached: Tabled<'a>) -> Tabled<'a>
         Some(part) => part,
         None => reached,
     }
+}
+
+/// The type of a bundle's first field of a name. What has no such field stays.
+pub fn field_type(typ: &FirType, id: u32) -> &FirType
+    ensures { result.now ≡ field_type id typ.now }
+{
+    to_field(Tabled::plain(typ), id).typ
+}
+
+/// The type of a vector's elements. What is no vector stays.
+pub fn element_type(typ: &FirType) -> &FirType
+    ensures { result.now ≡ element_type typ.now }
+{
+    to_element(Tabled::plain(typ)).typ
 }

@@ -13,7 +13,7 @@ ghost use Rattle.drive_check.specs.Walks.{sort_of, leaf_faults, undriven};
 
 use crate::fault::DriveFault;
 use crate::leaf_set::{LeafSet, key_of};
-use crate::listing::list_leaves;
+use crate::listing::{list_leaves, list_part};
 use crate::module_types::ModuleTypes;
 use crate::spot::{Spot, spot_of};
 use fir_tree::Expr;
@@ -155,7 +155,8 @@ fn drive_spot(
 ) -> Result<(), AllocError>
     ensures { OnOk result ((leaf : Leaf) → is_among certain.new.keys.keys leaf ≡ (may_name flip (Some (region_at spot.now)) leaf || is_among certain.old.keys.keys leaf)) }
 {
-    let leaves = list_leaves(alloc, spot.typ)?;
+    let part = spot.part;
+    let leaves = list_part(alloc, part)?;
     for leaf in &leaves {
         drive_leaf(alloc, certain, spot, flip, leaf)?;
     }

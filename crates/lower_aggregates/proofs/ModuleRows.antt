@@ -1,5 +1,5 @@
 -- The leaves and components of a module as the table and the view have them.
-use Rattle.std.proofs.Common.{◌≡◌, ℕ, zero, suc, ◌+◌, ◌<◌, ◌≤◌, Bool, List, [], ◌∷◌, ◌++◌, map, min, take, length, Option, Some, None, option_map, refl, sym, ap, ap₂, ◌∙◌, subst, arith, if◌then◌else◌, ◌⊎◌, inl, inr, ⊎_elim}
+use Rattle.std.proofs.Common.{◌≡◌, ℕ, zero, suc, ◌+◌, Bool, List, [], ◌∷◌, ◌++◌, map, min, length, Option, Some, None, option_map, refl, sym, ap, ap₂, ◌∙◌, subst, arith, if◌then◌else◌, ◌⊎◌, inl, inr, ⊎_elim}
 use Rattle.std.specs.Prelude.{Contains}
 use Rattle.std.specs.List.{slice_get, flat_map, sum_by}
 use Rattle.std.proofs.lemmas.Grind.{common_steps}
@@ -7,7 +7,6 @@ use Rattle.std.proofs.lemmas.List.{length-map, map-append}
 use Rattle.std.proofs.lemmas.List.Concat.{flat_map-cons}
 use Rattle.std.proofs.lemmas.List.Folds.{flat_map-map}
 use Rattle.std.proofs.lemmas.List.Sums.{sum_by-cons}
-use Rattle.fir_types.specs.declared.leaf.TypeLeaf.{TypeLeaf}
 use Rattle.fir_types.specs.Leaves.{leaves}
 use Rattle.fir_tree.specs.declared.circuit.Module.{Module}
 use Rattle.fir_tree.specs.LeafNames.{Texts}
@@ -19,9 +18,9 @@ use Rattle.ground_net.specs.declared.circuit.GroundLeaf.{GroundLeaf}
 use Rattle.net_of_circuit.specs.Numbers.{ModuleLeaf, leaves_of, module_leaves, is_set, table_of, ground_shape}
 use Rattle.net_of_circuit.specs.Lowering.{IsGroundLeaf}
 use Rattle.lower_aggregates.specs.declared.pieces.Piece.{Piece}
-use Rattle.lower_aggregates.specs.Parts.{Part, component_part, component_parts, parts_of}
+use Rattle.lower_aggregates.specs.Parts.{component_part, component_parts, parts_of}
 use Rattle.lower_aggregates.specs.Held.{held_part}
-use Rattle.lower_aggregates.specs.Tables.{Row, leaf_row, row_by, part_rows, piece_rows, flags_of_part, flags_of_piece, is_set_by, part_size, port_size}
+use Rattle.lower_aggregates.specs.Tables.{Row, leaf_row, row_by, part_rows, piece_rows, flags_of_part, flags_of_piece, part_size, port_size}
 
 some_same : {A : Type 0} {x y : A} → Some x ≡ Some y → x ≡ y
 some_same {A} {x} e = ap (or_first x) e

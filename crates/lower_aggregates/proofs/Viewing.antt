@@ -1,5 +1,5 @@
 -- Where the components of a module stand, by their names.
-use Rattle.std.proofs.Common.{◌≡◌, ℕ, zero, suc, ◌+◌, ◌<◌, Bool, true, false, List, [], ◌∷◌, ◌++◌, map, take, length, Option, Some, None, refl, sym, ap, ap₂, ◌∙◌, subst, arith, true≢false}
+use Rattle.std.proofs.Common.{◌≡◌, ℕ, zero, suc, ◌+◌, Bool, true, false, List, [], ◌∷◌, map, take, length, Option, Some, None, refl, sym, ap, ◌∙◌, arith}
 use Rattle.std.specs.Prelude.{cond, nat_eq}
 use Rattle.std.specs.Map.{lookup}
 use Rattle.std.specs.List.{slice_get, sum_by}
@@ -13,7 +13,7 @@ use Rattle.net_of_circuit.specs.Numbers.{leaves_before}
 use Rattle.ground_exprs.specs.declared.component.Component.{Component as Known}
 use Rattle.ground_exprs.specs.Sources.{Entries}
 use Rattle.lower_aggregates.specs.declared.pieces.Piece.{Piece}
-use Rattle.lower_aggregates.specs.Parts.{Part, component_part, component_parts, parts_of}
+use Rattle.lower_aggregates.specs.Parts.{Part, component_parts, parts_of}
 use Rattle.lower_aggregates.specs.Held.{held_part}
 use Rattle.lower_aggregates.specs.Views.{KnowsPieces, entry_of, AreNamedOnce}
 

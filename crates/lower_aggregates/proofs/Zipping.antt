@@ -4,8 +4,7 @@ use Rattle.std.proofs.lemmas.Grind.{common_steps}
 use Rattle.std.proofs.lemmas.List.{length-map, map-append}
 use Rattle.fir_types.specs.declared.fir_type.FirType.{FirType}
 use Rattle.fir_types.specs.Leaves.{leaves}
-use Rattle.fir_tree.specs.declared.circuit.Module.{Module}
-use Rattle.fir_meaning.specs.Components.{Declaration, Component, TypedModule, declarations_of}
+use Rattle.fir_meaning.specs.Components.{Declaration, Component}
 use Rattle.lower_aggregates.specs.declared.declarations.Declaration.{Declaration as Held}
 use Rattle.lower_aggregates.specs.declared.pieces.Piece.{Piece}
 use Rattle.lower_aggregates.specs.Held.{held_heading, held_part}

@@ -1,4 +1,4 @@
-use Rattle.std.proofs.Common.{◌∙◌, ap, sym, length, map, zip}
+use Rattle.std.proofs.Common.{◌∙◌, ap, sym, length, zip}
 use Rattle.std.proofs.lemmas.List.{length-map}
 use Rattle.fir_meaning.specs.Components.{declarations_of}
 use Rattle.lower_aggregates.specs.Headings.{heading_of}

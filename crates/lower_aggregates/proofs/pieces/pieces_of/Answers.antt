@@ -1,4 +1,4 @@
-use Rattle.std.proofs.Common.{rules, arith, map, refl, ◌∙◌, sym, ap, length}
+use Rattle.std.proofs.Common.{arith, refl, ◌∙◌, sym, ap, length}
 use Rattle.std.proofs.lemmas.Grind.{common_steps}
 use Rattle.std.proofs.lemmas.List.{length-map}
 use Rattle.lower_aggregates.specs.Held.{held_heading}
