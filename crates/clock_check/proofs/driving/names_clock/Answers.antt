@@ -1,6 +1,4 @@
 use Rattle.std.proofs.Common.{◌∙◌, ap, sym}
-use Rattle.std.specs.List.{list_any}
-use Rattle.fir_types.specs.Leaves.{leaves, is_clock}
 use Rattle.fir_meaning.specs.Certain.{may_name}
 use Rattle.drive_check.specs.HeldTypes.{types_in}
 use Rattle.clock_check.proofs.Reaching.{region_is, unclocked}
