@@ -1,0 +1,224 @@
+-- Leaves in a row, of which an index picks one.
+use Rattle.std.proofs.Common.{◌≡◌, ◌==◌, ◌&&◌, ℕ, zero, suc, get_or, slice_get, slice_index, nat_lt, ◌^◌, ◌<◌, ◌+◌, ◌*◌, ◌≤◌, max, pos, Bool, true, false, true≢false, List, [], ◌∷◌, ◌++◌, map, flat_map, length, Option, Some, None, option_map, option_and_then, refl, sym, subst, ap, ap₂, ◌∙◌, arith, ⊎_elim, inl, inr, if◌then◌else◌}
+use Rattle.std.specs.Prelude.{IsSome, IfSome, sum, sum_by}
+use Rattle.std.specs.List.{list_all}
+use Rattle.std.proofs.lemmas.Bool.{lt-ltb, le-ltb, cases_lt}
+use Rattle.std.proofs.lemmas.Grind.{common_steps, flat_map-append}
+use Rattle.std.proofs.lemmas.List.{length-map, append-nil}
+use Rattle.std.proofs.lemmas.List.Sums.{sum-map}
+use Rattle.std.proofs.lemmas.Option.{slice_get-get_or, slice_get-map}
+use Rattle.bit_words.specs.declared.value.Kind.{Kind}
+use Rattle.bit_words.specs.declared.value.Kind.TheVariants.{Unsigned, Signed}
+use Rattle.bit_words.specs.declared.value.Value.{Value}
+use Rattle.bit_words.specs.Values.{integer, integer_of}
+use Rattle.prim_ops.specs.Values.{fitted, lone}
+use Rattle.ground_net.specs.declared.ground.Ground.{Ground}
+use Rattle.ground_net.specs.declared.ground.Ground.TheVariants.{Indexed}
+use Rattle.ground_net.specs.Grounds.{Instant, value, mentions, element_count, place, indexed, or_zero}
+use Rattle.ground_net.specs.Shapes.{Shape, shaped, Table, shape, all_of, shape_of_value, are_index_shapes, shape_of_items, is_unsigned, same_shape}
+use Rattle.ground_net.specs.Words.{value_at, high_at}
+use Rattle.ground_net.proofs.Layers.{values, all_mentions, value-Indexed, mentions-Indexed}
+use Rattle.ground_net.proofs.Shaping.{and_then, both_true, if_some, fitted_shape}
+use Rattle.flat_code.specs.declared.instr.Location.{Location}
+use Rattle.flat_code.specs.Meaning.{location_shape, location_value, location_values}
+use Rattle.flat_code.specs.Fine.{among, further_words, location_shapes, location_slots, slots_of, InRegion}
+use Rattle.code_draft.specs.declared.draft.Draft.{Draft}
+use Rattle.code_draft.specs.Drafts.{IsDraft, Stands, Makes, Solved}
+use Rattle.code_draft.specs.Segments.{Segment}
+use Rattle.code_draft.proofs.Growing.{grows_then}
+use Rattle.code_draft.proofs.Joining.{segment_then, segment_weaker}
+use Rattle.code_draft.proofs.Segmenting.{among_left}
+use Rattle.code_draft.proofs.Stepping.{location_few}
+use Rattle.code_sources.specs.declared.rows.Reading.{Reading}
+use Rattle.code_sources.specs.declared.sources.Elements.{Elements}
+use Rattle.code_sources.specs.declared.sources.Source.{Source}
+use Rattle.code_sources.specs.declared.sources.Source.TheVariants as source
+use Rattle.code_sources.specs.declared.sources.Sources.{Sources}
+use Rattle.code_sources.specs.Rows.{IsWordAt, StandInRow, IsReading, IsElementAt}
+use Rattle.code_emit.specs.Emits.{leaf_source, source_shape, elements_shape, element_value, AreSources, shapes_in, sources_table, Sees, Emits, EmitsAll}
+use Rattle.code_emit.specs.Counts.{tips}
+use Rattle.code_emit.specs.Spans.{leaf_slots, ground_slots, Spans, SpansAll}
+use Rattle.code_emit.proofs.Counting.{tips-Indexed}
+use Rattle.code_emit.proofs.Shaped.{some_same, none_some, locations_are, indexed_parts}
+use Rattle.code_emit.proofs.Spanning.{slots_each}
+
+-- What stands in a row
+
+module _ (S : Sources) (e : Elements) (words : List ℕ) (inputs : List Value) (F : List ℕ) (instant : Instant) (sees : Sees S words inputs F instant) where
+  leaf_is : (x n : ℕ) → IsWordAt S e x n → instant.leaf x ≡ value_at (elements_shape e) words n
+  leaf_is x n w = sees.leaf x (source.Word w.kept) w.there ∙ ap₂ (λ s k. value_at s words k) w.shape w.at
+
+  leaf_shape : (x n : ℕ) → IsWordAt S e x n → shape_of_value (instant.leaf x) ≡ elements_shape e
+  leaf_shape x n w = ap shape_of_value (leaf_is x n w) ∙ fitted_shape e.kind e.width (pos (slice_index words n + high_at (elements_shape e) words n * 2 ^ 64)) e.narrow
+
+  first_zero : (ns : List ℕ) → StandInRow S ns e → or_zero (map instant.leaf ns) None ≡ fitted e.kind e.width (pos 0)
+  first_zero [] row = let some = row.several in absurd (omega (arith, some))
+  first_zero (x ∷ ns) row = ap (λ (s : Shape). fitted s.kind s.width (pos 0)) (leaf_shape x (e.region.base + 0 * e.region.stride) (row.each 0 x refl))
+
+  pub row_value : (ns : List ℕ) (k : ℕ) (a : Value) → StandInRow S ns e → a.bits ≡ k → indexed (if nat_lt k e.region.depth then Some k else None) (map instant.leaf ns) ≡ element_value e words a
+  row_value ns k a row is = sym (ap (λ n. if nat_lt n e.region.depth then value_at (elements_shape e) words (e.region.base + n * e.region.stride) else fitted e.kind e.width (pos 0)) is ∙ ⊎_elim
+      (λ lt.
+      let test : nat_lt k e.region.depth ≡ true = lt-ltb k e.region.depth lt in
+      let counted = row.counted in
+      let x = get_or ns k 0 in
+      let there : slice_get ns k ≡ Some x = slice_get-get_or ns k 0 (omega (arith, lt, counted)) in
+      ap (λ b. if b then value_at (elements_shape e) words (e.region.base + k * e.region.stride) else fitted e.kind e.width (pos 0)) test
+      ∙ sym (ap (λ b. indexed (if b then Some k else None) (map instant.leaf ns)) test ∙ ap (or_zero (map instant.leaf ns)) (slice_get-map instant.leaf ns k ∙ ap (option_map instant.leaf) there)
+      ∙ leaf_is x (e.region.base + k * e.region.stride) (row.each k x there)))
+      (λ le.
+      let test : nat_lt k e.region.depth ≡ false = le-ltb k e.region.depth le in
+      ap (λ b. if b then value_at (elements_shape e) words (e.region.base + k * e.region.stride) else fitted e.kind e.width (pos 0)) test
+      ∙ sym (ap (λ b. indexed (if b then Some k else None) (map instant.leaf ns)) test ∙ first_zero ns row))
+      (cases_lt k e.region.depth))
+
+row_region : (S : Sources) (e : Elements) (ns : List ℕ) (d : Draft) → StandInRow S ns e → AreSources S d → InRegion d.words e.width e.region
+row_region S e ns d row srcs p lt =
+    let counted = row.counted in
+    let w = row.each p (get_or ns p 0) (slice_get-get_or ns p 0 (omega (arith, lt, counted))) in
+    subst (λ n. n + further_words e.width < d.words) w.at (subst (λ (t : Shape). w.kept.number + further_words t.width < d.words) w.shape (srcs.leaves (get_or ns p 0) (source.Word w.kept) w.there))
+
+-- an answer that is there
+pub found : {A : Type 0} (P : A → Type 0) (o : Option A) (x : A) → o ≡ Some x → IfSome o P → P x
+found P o x e h = subst (λ p. IfSome p P) e h
+
+-- One index
+
+one_length : (s : Shape) (ls : List ℕ) → are_index_shapes (s ∷ []) ls ≡ true → (n : ℕ) × (ls ≡ n ∷ []) × (is_unsigned s ≡ true)
+one_length s [] h = absurd (true≢false (sym h))
+one_length s (n ∷ []) h = (n, refl, (both_true (is_unsigned s) true h).0)
+one_length s (n ∷ m ∷ ls) h = absurd (true≢false (sym (both_true (is_unsigned s) false h).1))
+
+unsigned_kind : (s : Shape) → is_unsigned s ≡ true → s.kind ≡ Unsigned
+unsigned_kind s h = by_kind s.kind h
+  where
+    by_kind : (k : Kind) → is_unsigned (shaped k 0) ≡ true → k ≡ Unsigned
+    by_kind Unsigned h = refl
+    by_kind Signed h = absurd (true≢false (sym h))
+
+place_one : (k n : ℕ) → place (pos k ∷ []) (n ∷ []) ≡ (if nat_lt k n then Some k else None)
+place_one k n = let same : k * 1 + 0 ≡ k = omega arith in ap (λ m. if nat_lt k n then Some m else None) same
+
+same_number : (a b : ℕ) → (a == b) ≡ true → a ≡ b
+same_number a b h = grind (arith, common_steps)
+
+all_long : (os : List (Option Shape)) (ss : List Shape) → all_of os ≡ Some ss → length os ≡ length ss
+all_long [] ss e = let none : [] ≡ ss = some_same e in ap length none
+all_long (o ∷ os) ss e =
+    let first = and_then (λ s. option_and_then (λ more. Some (s ∷ more)) (all_of os)) o ss e in
+    let rest = and_then (λ more. Some (first.0 ∷ more)) (all_of os) ss first.2 in
+    ap suc (all_long os rest.0 rest.1) ∙ ap length (some_same rest.2)
+
+-- the first shape of several
+items_first : (o : Option Shape) (os : List (Option Shape)) (ss : List Shape) (s t : Shape) → all_of (o ∷ os) ≡ Some ss → o ≡ Some s → shape_of_items ss ≡ Some t → t ≡ s
+items_first o os [] s t e f h =
+    let first = and_then (λ x. option_and_then (λ more. Some (x ∷ more)) (all_of os)) o [] e in
+    let rest = and_then (λ more. Some (first.0 ∷ more)) (all_of os) [] first.2 in
+    let long : suc (length rest.0) ≡ 0 = ap length (some_same rest.2) in
+    absurd (omega (arith, long))
+items_first o os (u ∷ more) s t e f h =
+    let first = and_then (λ x. option_and_then (λ more. Some (x ∷ more)) (all_of os)) o (u ∷ more) e in
+    let rest = and_then (λ more. Some (first.0 ∷ more)) (all_of os) (u ∷ more) first.2 in
+    let same : first.0 ≡ u = head_same (some_same rest.2) in
+    let test = if_some (list_all (λ v. same_shape v u) more) (Some u) t h in
+    sym (some_same test.1) ∙ (sym same ∙ some_same (sym first.1 ∙ f))
+  where
+    head_same : {x y : Shape} {xs ys : List Shape} → x ∷ xs ≡ y ∷ ys → x ≡ y
+    head_same e = cc
+
+module _ (S : Sources) (g : Ground) (ns : List ℕ) (is : List Ground) (ls : List ℕ) (some : IsSome (shape g (sources_table S))) (e : g ≡ Indexed ns is ls) (front : List Location) (r : Reading)
+    (shapes : all_of (shapes_in (sources_table S) is) ≡ Some (location_shapes front)) (reads : IsReading S ns front r) where
+  abbrev table : Table
+  table = sources_table S
+
+  abbrev parts : (i : List Shape) × (ss : List Shape) × (all_of (shapes_in table is) ≡ Some i) × (all_of (map table.leaf ns) ≡ Some ss) × ((are_index_shapes i ls && (length ss == element_count ls)) ≡ true) × (shape_of_items ss ≡ shape g table)
+  parts = indexed_parts table g some ns is ls e
+
+  tests : (are_index_shapes (location_shape r.address ∷ []) ls ≡ true) × (length ns ≡ element_count ls)
+  tests =
+      let p = parts in
+      let both = both_true (are_index_shapes p.0 ls) (length p.1 == element_count ls) p.4 in
+      let same : p.0 ≡ location_shape r.address ∷ [] = locations_are (shapes_in table is) p.0 (location_shapes front) p.2 shapes ∙ ap location_shapes reads.one in
+      (subst (λ i. are_index_shapes i ls ≡ true) same both.0, sym (length-map ns table.leaf) ∙ (all_long (map table.leaf ns) p.1 p.3 ∙ same_number (length p.1) (element_count ls) both.1))
+
+  pub reading_shape : shape g table ≡ Some (elements_shape r.elements)
+  reading_shape = by_leaves ns parts.1 parts.3 reads.row (shape g table) some parts.5
+    where
+      by_leaves : (xs : List ℕ) (ss : List Shape) → all_of (map table.leaf xs) ≡ Some ss → StandInRow S xs r.elements → (o : Option Shape) → IsSome o → shape_of_items ss ≡ o → o ≡ Some (elements_shape r.elements)
+      by_leaves [] ss all row o there is = let few = row.several in absurd (omega (arith, few))
+      by_leaves (x ∷ xs) ss all row (Some t) there is =
+          let w = row.each 0 x refl in
+          ap Some (items_first (table.leaf x) (map table.leaf xs) ss (elements_shape r.elements) t all (ap (option_map source_shape) w.there ∙ ap Some w.shape) is)
+      by_leaves (x ∷ xs) ss all row None there is = absurd (true≢false (sym there))
+
+  address_kind : r.address.kind ≡ Unsigned
+  address_kind = unsigned_kind (location_shape r.address) (one_length (location_shape r.address) ls tests.0).2
+
+  reading_value : (words : List ℕ) (inputs : List Value) (F : List ℕ) (instant : Instant) → Sees S words inputs F instant → location_values F front ≡ values is instant → value g instant ≡ element_value r.elements words (location_value F r.address)
+  reading_value words inputs F instant sees are =
+      let one = one_length (location_shape r.address) ls tests.0 in
+      let n : ℕ = one.0 in
+      let v = location_value F r.address in
+      let count : length ns ≡ n * 1 = tests.1 ∙ ap element_count one.1 in
+      let counted = reads.row.counted in
+      let depth : r.elements.region.depth ≡ n = omega (arith, count, counted) in
+      let number : integer_of v ≡ pos v.bits = ap (λ k. integer k v.width v.bits) address_kind in
+      let indices : values is instant ≡ v ∷ [] = sym are ∙ ap (location_values F) reads.one in
+      ap (λ h. value h instant) e ∙ (value-Indexed ns is ls instant
+      ∙ (ap₂ (λ us qs. indexed (place (map integer_of us) qs) (map instant.leaf ns)) indices one.1
+      ∙ (ap (λ z. indexed (place (z ∷ []) (n ∷ [])) (map instant.leaf ns)) number
+      ∙ (ap (λ o. indexed o (map instant.leaf ns)) (place_one v.bits n ∙ ap (λ m. if nat_lt v.bits m then Some v.bits else None) (sym depth))
+      ∙ row_value S r.elements words inputs F instant sees ns v.bits v reads.row refl))))
+
+  pub reading_emits : (a b c : Draft) (s : Location) → EmitsAll S is a b front
+      → (IsDraft b → Stands b r.address → r.address.kind ≡ Unsigned → InRegion b.words r.elements.width r.elements.region → Makes b c s (IsElementAt r)) → Emits S g a c s
+  reading_emits a b c s all last is_draft srcs =
+      let first = all is_draft srcs in
+      let stand = subst (λ xs. (k : ℕ) (d : Location) → k < length xs → Stands b (get_or xs k d)) reads.one first.stand 0 r.address (omega arith) in
+      let region = subst (λ m. InRegion m r.elements.width r.elements.region) (sym first.grows.words) (row_region S r.elements ns a reads.row srcs) in
+      let m = last first.grows.is stand address_kind region in
+      record {
+        grows = grows_then a b c first.grows m.grows;
+        stands = m.stands;
+        holds = λ words inputs F v sol wanted.
+            let instant = wanted.0 in
+            let sees = wanted.1 in
+            let back = m.grows.back words inputs F sol in
+            let cut = subst (λ xs. (k : ℕ) (d : Location) → k < length xs → Rattle.code_emit.specs.Ways.Cut F (get_or xs k d)) reads.one (first.cut words inputs F instant back sees) 0 r.address (omega arith) in
+            m.holds words inputs F v sol (wanted.2 ∙ reading_value words inputs F instant sees (first.holds words inputs F instant back sees), cut);
+      }
+
+  pub reading_spans : (a b c : Draft) (s : Location) → SpansAll S is a b front → Segment b c (location_slots r.address) (location_slots s) 4 → Spans S g a c s
+  reading_spans a b c s all load before =
+      let O = flat_map (ground_slots S) is in
+      let K = slots_of front in
+      let Q = location_slots s in
+      let f = all before in
+      let lower = f.slots in
+      let upper = load.slots in
+      let few = location_few s in
+      let held = f.few in
+      let count : tips g ≡ max 1 (sum (map tips is) + length ns) = ap tips e ∙ tips-Indexed ns is ls in
+      let sums = sum-map tips is in
+      let several = reads.row.several in
+      let address : location_slots r.address ≡ K = sym (append-nil (location_slots r.address)) ∙ sym (ap slots_of reads.one) in
+      let next : Segment b c K Q 4 = subst (λ xs. Segment b c xs Q 4) address load in
+      let both : Segment a c O Q (2 * tips g) = segment_then a b c O K K Q O Q (2 * sum_by tips is) 4 (2 * tips g) f next (record {
+        lower = lower;
+        upper = upper;
+        first_outer = λ k lt h. h;
+        second_outer = λ k lt h. ⊎_elim (λ own. let low = own.0 in absurd (omega (arith, low, lt))) (λ out. out) (f.there k h);
+        inside = λ k low up h. h;
+        kept_first = λ k low up h. ⊎_elim (λ own. let out = own.0 in absurd (omega (arith, out, up))) (λ kept. kept) (next.there k h);
+        kept_second = λ k low up h. h;
+      })
+      (λ k h. ⊎_elim
+      (λ own. let low = own.0 in inl (omega (arith, low, lower), own.1))
+      (λ kept. ⊎_elim (λ own. let up = own.1 in inl (own.0, omega (arith, up, upper))) (λ out. inr out) (f.there k kept))
+      (next.there k h))
+      (omega (arith, count, sums)) (omega (arith, held, count, sums, several)) (omega (arith, few, count, several)) in
+      let told : mentions g ≡ all_mentions is ++ ns = ap mentions e ∙ mentions-Indexed ns is ls in
+      segment_weaker a c O Q (ground_slots S g) Q (2 * tips g) (2 * tips g) both
+      (λ k h. subst (λ xs. among (flat_map (leaf_slots S) xs) k ≡ true) (sym told)
+      (subst (λ xs. among xs k ≡ true) (sym (flat_map-append (leaf_slots S) (all_mentions is) ns))
+      (among_left (flat_map (leaf_slots S) (all_mentions is)) (flat_map (leaf_slots S) ns) k (subst (λ xs. among xs k ≡ true) (slots_each S is) h))))
+      (λ k h. h) (omega arith) (omega (arith, few, count, several))
