@@ -1,12 +1,12 @@
 -- Leaves in a row, of which an index picks one.
-use Rattle.std.proofs.Common.{◌≡◌, ◌==◌, ◌&&◌, ℕ, zero, suc, get_or, slice_get, slice_index, nat_lt, ◌^◌, ◌<◌, ◌+◌, ◌*◌, ◌≤◌, max, pos, Bool, true, false, true≢false, List, [], ◌∷◌, ◌++◌, map, flat_map, length, Option, Some, None, option_map, option_and_then, refl, sym, subst, ap, ap₂, ◌∙◌, arith, ⊎_elim, inl, inr, if◌then◌else◌}
+use Rattle.std.proofs.Common.{◌≡◌, ◌==◌, ◌&&◌, ℕ, zero, suc, get_or, slice_get, slice_index, nat_lt, ◌^◌, ◌<◌, ◌+◌, ◌*◌, ◌≤◌, max, pos, Bool, true, false, true≢false, List, [], ◌∷◌, ◌++◌, map, flat_map, length, Option, Some, None, option_map, option_and_then, refl, sym, subst, ap, ap₂, ◌∙◌, arith, ⊎_elim, inl, inr, if◌then◌else◌, All}
 use Rattle.std.specs.Prelude.{IsSome, IfSome, sum, sum_by}
 use Rattle.std.specs.List.{list_all}
 use Rattle.std.proofs.lemmas.Bool.{lt-ltb, le-ltb, cases_lt}
 use Rattle.std.proofs.lemmas.Grind.{common_steps, flat_map-append}
 use Rattle.std.proofs.lemmas.List.{length-map, append-nil}
 use Rattle.std.proofs.lemmas.List.Sums.{sum-map}
-use Rattle.std.proofs.lemmas.Option.{slice_get-get_or, slice_get-map}
+use Rattle.std.proofs.lemmas.Option.{slice_get-get_or, slice_get-map, slice_get_past}
 use Rattle.bit_words.specs.declared.value.Kind.{Kind}
 use Rattle.bit_words.specs.declared.value.Kind.TheVariants.{Unsigned, Signed}
 use Rattle.bit_words.specs.declared.value.Value.{Value}
@@ -20,7 +20,7 @@ use Rattle.ground_net.specs.Words.{value_at, high_at}
 use Rattle.ground_net.proofs.Layers.{values, all_mentions, value-Indexed, mentions-Indexed}
 use Rattle.ground_net.proofs.Shaping.{and_then, both_true, if_some, fitted_shape}
 use Rattle.flat_code.specs.declared.instr.Location.{Location}
-use Rattle.flat_code.specs.Meaning.{location_shape, location_value, location_values}
+use Rattle.flat_code.specs.Meaning.{location_shape, location_values, place_by}
 use Rattle.flat_code.specs.Fine.{among, further_words, location_shapes, location_slots, slots_of, InRegion}
 use Rattle.code_draft.specs.declared.draft.Draft.{Draft}
 use Rattle.code_draft.specs.Drafts.{IsDraft, Stands, Makes, Solved}
@@ -29,12 +29,11 @@ use Rattle.code_draft.proofs.Growing.{grows_then}
 use Rattle.code_draft.proofs.Joining.{segment_then, segment_weaker}
 use Rattle.code_draft.proofs.Segmenting.{among_left}
 use Rattle.code_draft.proofs.Stepping.{location_few}
-use Rattle.code_sources.specs.declared.rows.Reading.{Reading}
 use Rattle.code_sources.specs.declared.sources.Elements.{Elements}
 use Rattle.code_sources.specs.declared.sources.Source.{Source}
 use Rattle.code_sources.specs.declared.sources.Source.TheVariants as source
 use Rattle.code_sources.specs.declared.sources.Sources.{Sources}
-use Rattle.code_sources.specs.Rows.{IsWordAt, StandInRow, IsReading, IsElementAt}
+use Rattle.code_sources.specs.Rows.{IsWordAt, StandInRow, IsRow, IsPicked, element_at_place, slots_of_load}
 use Rattle.code_emit.specs.Emits.{leaf_source, source_shape, elements_shape, element_value, AreSources, shapes_in, sources_table, Sees, Emits, EmitsAll}
 use Rattle.code_emit.specs.Counts.{tips}
 use Rattle.code_emit.specs.Spans.{leaf_slots, ground_slots, Spans, SpansAll}
@@ -55,21 +54,20 @@ module _ (S : Sources) (e : Elements) (words : List ℕ) (inputs : List Value) (
   first_zero [] row = let some = row.several in absurd (omega (arith, some))
   first_zero (x ∷ ns) row = ap (λ (s : Shape). fitted s.kind s.width (pos 0)) (leaf_shape x (e.region.base + 0 * e.region.stride) (row.each 0 x refl))
 
-  pub row_value : (ns : List ℕ) (k : ℕ) (a : Value) → StandInRow S ns e → a.bits ≡ k → indexed (if nat_lt k e.region.depth then Some k else None) (map instant.leaf ns) ≡ element_value e words a
-  row_value ns k a row is = sym (ap (λ n. if nat_lt n e.region.depth then value_at (elements_shape e) words (e.region.base + n * e.region.stride) else fitted e.kind e.width (pos 0)) is ∙ ⊎_elim
+  pub row_value : (ns : List ℕ) (o : Option ℕ) → StandInRow S ns e → indexed o (map instant.leaf ns) ≡ element_at_place e words o
+  row_value ns None row = first_zero ns row
+  row_value ns (Some k) row = ⊎_elim
       (λ lt.
-      let test : nat_lt k e.region.depth ≡ true = lt-ltb k e.region.depth lt in
       let counted = row.counted in
       let x = get_or ns k 0 in
       let there : slice_get ns k ≡ Some x = slice_get-get_or ns k 0 (omega (arith, lt, counted)) in
-      ap (λ b. if b then value_at (elements_shape e) words (e.region.base + k * e.region.stride) else fitted e.kind e.width (pos 0)) test
-      ∙ sym (ap (λ b. indexed (if b then Some k else None) (map instant.leaf ns)) test ∙ ap (or_zero (map instant.leaf ns)) (slice_get-map instant.leaf ns k ∙ ap (option_map instant.leaf) there)
-      ∙ leaf_is x (e.region.base + k * e.region.stride) (row.each k x there)))
+      ap (or_zero (map instant.leaf ns)) (slice_get-map instant.leaf ns k ∙ ap (option_map instant.leaf) there) ∙ leaf_is x (e.region.base + k * e.region.stride) (row.each k x there)
+      ∙ ap (λ b. if b then value_at (elements_shape e) words (e.region.base + k * e.region.stride) else fitted e.kind e.width (pos 0)) (sym (lt-ltb k e.region.depth lt)))
       (λ le.
-      let test : nat_lt k e.region.depth ≡ false = le-ltb k e.region.depth le in
-      ap (λ b. if b then value_at (elements_shape e) words (e.region.base + k * e.region.stride) else fitted e.kind e.width (pos 0)) test
-      ∙ sym (ap (λ b. indexed (if b then Some k else None) (map instant.leaf ns)) test ∙ first_zero ns row))
-      (cases_lt k e.region.depth))
+      let counted = row.counted in
+      ap (or_zero (map instant.leaf ns)) (slice_get-map instant.leaf ns k ∙ ap (option_map instant.leaf) (slice_get_past ns k (omega (arith, le, counted)))) ∙ first_zero ns row
+      ∙ ap (λ b. if b then value_at (elements_shape e) words (e.region.base + k * e.region.stride) else fitted e.kind e.width (pos 0)) (sym (le-ltb k e.region.depth le)))
+      (cases_lt k e.region.depth)
 
 row_region : (S : Sources) (e : Elements) (ns : List ℕ) (d : Draft) → StandInRow S ns e → AreSources S d → InRegion d.words e.width e.region
 row_region S e ns d row srcs p lt =
@@ -81,22 +79,7 @@ row_region S e ns d row srcs p lt =
 pub found : {A : Type 0} (P : A → Type 0) (o : Option A) (x : A) → o ≡ Some x → IfSome o P → P x
 found P o x e h = subst (λ p. IfSome p P) e h
 
--- One index
-
-one_length : (s : Shape) (ls : List ℕ) → are_index_shapes (s ∷ []) ls ≡ true → (n : ℕ) × (ls ≡ n ∷ []) × (is_unsigned s ≡ true)
-one_length s [] h = absurd (true≢false (sym h))
-one_length s (n ∷ []) h = (n, refl, (both_true (is_unsigned s) true h).0)
-one_length s (n ∷ m ∷ ls) h = absurd (true≢false (sym (both_true (is_unsigned s) false h).1))
-
-unsigned_kind : (s : Shape) → is_unsigned s ≡ true → s.kind ≡ Unsigned
-unsigned_kind s h = by_kind s.kind h
-  where
-    by_kind : (k : Kind) → is_unsigned (shaped k 0) ≡ true → k ≡ Unsigned
-    by_kind Unsigned h = refl
-    by_kind Signed h = absurd (true≢false (sym h))
-
-place_one : (k n : ℕ) → place (pos k ∷ []) (n ∷ []) ≡ (if nat_lt k n then Some k else None)
-place_one k n = let same : k * 1 + 0 ≡ k = omega arith in ap (λ m. if nat_lt k n then Some m else None) same
+-- Whole expressions
 
 same_number : (a b : ℕ) → (a == b) ≡ true → a ≡ b
 same_number a b h = grind (arith, common_steps)
@@ -125,57 +108,52 @@ items_first o os (u ∷ more) s t e f h =
     head_same : {x y : Shape} {xs ys : List Shape} → x ∷ xs ≡ y ∷ ys → x ≡ y
     head_same e = cc
 
-module _ (S : Sources) (g : Ground) (ns : List ℕ) (is : List Ground) (ls : List ℕ) (some : IsSome (shape g (sources_table S))) (e : g ≡ Indexed ns is ls) (front : List Location) (r : Reading)
-    (shapes : all_of (shapes_in (sources_table S) is) ≡ Some (location_shapes front)) (reads : IsReading S ns front r) where
+module _ (S : Sources) (g : Ground) (ns : List ℕ) (is : List Ground) (ls : List ℕ) (some : IsSome (shape g (sources_table S))) (e : g ≡ Indexed ns is ls) (front : List Location) (el : Elements)
+    (shapes : all_of (shapes_in (sources_table S) is) ≡ Some (location_shapes front)) (row : IsRow S ns front el) where
   abbrev table : Table
   table = sources_table S
 
   abbrev parts : (i : List Shape) × (ss : List Shape) × (all_of (shapes_in table is) ≡ Some i) × (all_of (map table.leaf ns) ≡ Some ss) × ((are_index_shapes i ls && (length ss == element_count ls)) ≡ true) × (shape_of_items ss ≡ shape g table)
   parts = indexed_parts table g some ns is ls e
 
-  tests : (are_index_shapes (location_shape r.address ∷ []) ls ≡ true) × (length ns ≡ element_count ls)
+  tests : (are_index_shapes (location_shapes front) ls ≡ true) × (length ns ≡ element_count ls)
   tests =
       let p = parts in
       let both = both_true (are_index_shapes p.0 ls) (length p.1 == element_count ls) p.4 in
-      let same : p.0 ≡ location_shape r.address ∷ [] = locations_are (shapes_in table is) p.0 (location_shapes front) p.2 shapes ∙ ap location_shapes reads.one in
+      let same : p.0 ≡ location_shapes front = locations_are (shapes_in table is) p.0 (location_shapes front) p.2 shapes in
       (subst (λ i. are_index_shapes i ls ≡ true) same both.0, sym (length-map ns table.leaf) ∙ (all_long (map table.leaf ns) p.1 p.3 ∙ same_number (length p.1) (element_count ls) both.1))
 
-  pub reading_shape : shape g table ≡ Some (elements_shape r.elements)
-  reading_shape = by_leaves ns parts.1 parts.3 reads.row (shape g table) some parts.5
+  pub row_indices : are_index_shapes (location_shapes front) ls ≡ true
+  row_indices = tests.0
+
+  pub row_counted : element_count ls ≡ el.region.depth
+  row_counted = sym (row.row.counted ∙ tests.1)
+
+  pub row_some : 0 < el.region.depth
+  row_some = let several = row.row.several in let counted = row.row.counted in omega (arith, several, counted)
+
+  pub row_shape : shape g table ≡ Some (elements_shape el)
+  row_shape = by_leaves ns parts.1 parts.3 row.row (shape g table) some parts.5
     where
-      by_leaves : (xs : List ℕ) (ss : List Shape) → all_of (map table.leaf xs) ≡ Some ss → StandInRow S xs r.elements → (o : Option Shape) → IsSome o → shape_of_items ss ≡ o → o ≡ Some (elements_shape r.elements)
+      by_leaves : (xs : List ℕ) (ss : List Shape) → all_of (map table.leaf xs) ≡ Some ss → StandInRow S xs el → (o : Option Shape) → IsSome o → shape_of_items ss ≡ o → o ≡ Some (elements_shape el)
       by_leaves [] ss all row o there is = let few = row.several in absurd (omega (arith, few))
       by_leaves (x ∷ xs) ss all row (Some t) there is =
           let w = row.each 0 x refl in
-          ap Some (items_first (table.leaf x) (map table.leaf xs) ss (elements_shape r.elements) t all (ap (option_map source_shape) w.there ∙ ap Some w.shape) is)
+          ap Some (items_first (table.leaf x) (map table.leaf xs) ss (elements_shape el) t all (ap (option_map source_shape) w.there ∙ ap Some w.shape) is)
       by_leaves (x ∷ xs) ss all row None there is = absurd (true≢false (sym there))
 
-  address_kind : r.address.kind ≡ Unsigned
-  address_kind = unsigned_kind (location_shape r.address) (one_length (location_shape r.address) ls tests.0).2
-
-  reading_value : (words : List ℕ) (inputs : List Value) (F : List ℕ) (instant : Instant) → Sees S words inputs F instant → location_values F front ≡ values is instant → value g instant ≡ element_value r.elements words (location_value F r.address)
-  reading_value words inputs F instant sees are =
-      let one = one_length (location_shape r.address) ls tests.0 in
-      let n : ℕ = one.0 in
-      let v = location_value F r.address in
-      let count : length ns ≡ n * 1 = tests.1 ∙ ap element_count one.1 in
-      let counted = reads.row.counted in
-      let depth : r.elements.region.depth ≡ n = omega (arith, count, counted) in
-      let number : integer_of v ≡ pos v.bits = ap (λ k. integer k v.width v.bits) address_kind in
-      let indices : values is instant ≡ v ∷ [] = sym are ∙ ap (location_values F) reads.one in
+  indexed_value : (words : List ℕ) (inputs : List Value) (F : List ℕ) (instant : Instant) → Sees S words inputs F instant → location_values F front ≡ values is instant
+      → value g instant ≡ element_at_place el words (place_by (location_values F front) ls)
+  indexed_value words inputs F instant sees are =
       ap (λ h. value h instant) e ∙ (value-Indexed ns is ls instant
-      ∙ (ap₂ (λ us qs. indexed (place (map integer_of us) qs) (map instant.leaf ns)) indices one.1
-      ∙ (ap (λ z. indexed (place (z ∷ []) (n ∷ [])) (map instant.leaf ns)) number
-      ∙ (ap (λ o. indexed o (map instant.leaf ns)) (place_one v.bits n ∙ ap (λ m. if nat_lt v.bits m then Some v.bits else None) (sym depth))
-      ∙ row_value S r.elements words inputs F instant sees ns v.bits v reads.row refl))))
+      ∙ (ap (λ us. indexed (place (map integer_of us) ls) (map instant.leaf ns)) (sym are) ∙ row_value S el words inputs F instant sees ns (place_by (location_values F front) ls) row.row))
 
-  pub reading_emits : (a b c : Draft) (s : Location) → EmitsAll S is a b front
-      → (IsDraft b → Stands b r.address → r.address.kind ≡ Unsigned → InRegion b.words r.elements.width r.elements.region → Makes b c s (IsElementAt r)) → Emits S g a c s
-  reading_emits a b c s all last is_draft srcs =
+  pub row_emits : (a b c : Draft) (s : Location) → EmitsAll S is a b front
+      → (IsDraft b → All (Stands b) front → InRegion b.words el.width el.region → Makes b c s (IsPicked el front ls)) → Emits S g a c s
+  row_emits a b c s all last is_draft srcs =
       let first = all is_draft srcs in
-      let stand = subst (λ xs. (k : ℕ) (d : Location) → k < length xs → Stands b (get_or xs k d)) reads.one first.stand 0 r.address (omega arith) in
-      let region = subst (λ m. InRegion m r.elements.width r.elements.region) (sym first.grows.words) (row_region S r.elements ns a reads.row srcs) in
-      let m = last first.grows.is stand address_kind region in
+      let region = subst (λ m. InRegion m el.width el.region) (sym first.grows.words) (row_region S el ns a row.row srcs) in
+      let m = last first.grows.is first.stand region in
       record {
         grows = grows_then a b c first.grows m.grows;
         stands = m.stands;
@@ -183,26 +161,24 @@ module _ (S : Sources) (g : Ground) (ns : List ℕ) (is : List Ground) (ls : Lis
             let instant = wanted.0 in
             let sees = wanted.1 in
             let back = m.grows.back words inputs F sol in
-            let cut = subst (λ xs. (k : ℕ) (d : Location) → k < length xs → Rattle.code_emit.specs.Ways.Cut F (get_or xs k d)) reads.one (first.cut words inputs F instant back sees) 0 r.address (omega arith) in
-            m.holds words inputs F v sol (wanted.2 ∙ reading_value words inputs F instant sees (first.holds words inputs F instant back sees), cut);
+            m.holds words inputs F v sol (wanted.2 ∙ indexed_value words inputs F instant sees (first.holds words inputs F instant back sees), first.cut words inputs F instant back sees);
       }
 
-  pub reading_spans : (a b c : Draft) (s : Location) → SpansAll S is a b front → Segment b c (location_slots r.address) (location_slots s) 4 → Spans S g a c s
-  reading_spans a b c s all load before =
+  pub row_spans : (a b c : Draft) (s : Location) → SpansAll S is a b front → ((n : ℕ) → slots_of_load (length front) ≤ n → Segment b c (slots_of front) (location_slots s) n) → Spans S g a c s
+  row_spans a b c s all load before =
       let O = flat_map (ground_slots S) is in
       let K = slots_of front in
       let Q = location_slots s in
       let f = all before in
+      let next = load (2 * length ns) row.room in
       let lower = f.slots in
-      let upper = load.slots in
+      let upper = next.slots in
       let few = location_few s in
       let held = f.few in
       let count : tips g ≡ max 1 (sum (map tips is) + length ns) = ap tips e ∙ tips-Indexed ns is ls in
       let sums = sum-map tips is in
-      let several = reads.row.several in
-      let address : location_slots r.address ≡ K = sym (append-nil (location_slots r.address)) ∙ sym (ap slots_of reads.one) in
-      let next : Segment b c K Q 4 = subst (λ xs. Segment b c xs Q 4) address load in
-      let both : Segment a c O Q (2 * tips g) = segment_then a b c O K K Q O Q (2 * sum_by tips is) 4 (2 * tips g) f next (record {
+      let several = row.row.several in
+      let both : Segment a c O Q (2 * tips g) = segment_then a b c O K K Q O Q (2 * sum_by tips is) (2 * length ns) (2 * tips g) f next (record {
         lower = lower;
         upper = upper;
         first_outer = λ k lt h. h;
@@ -215,7 +191,7 @@ module _ (S : Sources) (g : Ground) (ns : List ℕ) (is : List Ground) (ls : Lis
       (λ own. let low = own.0 in inl (omega (arith, low, lower), own.1))
       (λ kept. ⊎_elim (λ own. let up = own.1 in inl (own.0, omega (arith, up, upper))) (λ out. inr out) (f.there k kept))
       (next.there k h))
-      (omega (arith, count, sums)) (omega (arith, held, count, sums, several)) (omega (arith, few, count, several)) in
+      (omega (arith, count, sums)) (omega (arith, held, count, sums)) (omega (arith, few, count, several)) in
       let told : mentions g ≡ all_mentions is ++ ns = ap mentions e ∙ mentions-Indexed ns is ls in
       segment_weaker a c O Q (ground_slots S g) Q (2 * tips g) (2 * tips g) both
       (λ k h. subst (λ xs. among (flat_map (leaf_slots S) xs) k ≡ true) (sym told)

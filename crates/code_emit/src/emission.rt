@@ -18,7 +18,7 @@ use crate::nested::{Row, emit_nested, inner_of};
 use crate::values::{emit_fit, emit_operation};
 use bit_words::List;
 use code_draft::{Draft, constant, input, load, wide_value};
-use code_sources::{Elements, Source, Sources, load_at, reading_of};
+use code_sources::{Elements, Source, Sources, load_row, row_of};
 use flat_code::{Form, Location};
 use ground_net::{Ground, Numbers};
 use std::alloc::{AllocError, Global};
@@ -67,8 +67,8 @@ pub fn emit(
         }
         Ground::Indexed(numbers, indices, lengths) => {
             let front = emit_all(alloc, draft, sources, indices.as_slice())?;
-            if let Some(reading) = reading_of(alloc, sources, numbers, front.as_slice())? {
-                return load_at(draft, reading);
+            if let Some(row) = row_of(alloc, sources, numbers, front.as_slice())? {
+                return load_row(draft, front.as_slice(), lengths.as_slice(), row);
             }
             let back = emit_leaves(alloc, draft, sources, numbers)?;
             let measure = items_measure(back.as_slice());

@@ -25,7 +25,7 @@ use Rattle.code_draft.proofs.Fetches.{put_there, cut_narrow}
 use Rattle.code_draft.proofs.Cuts.{fitted_bits}
 use Rattle.code_draft.proofs.Joining.{goes_same, small_step, step_then, segment_weaker}
 use Rattle.code_draft.proofs.Stepping.{computed_step}
-use Rattle.code_sources.specs.declared.rows.Reading.{Reading}
+use Rattle.code_sources.specs.declared.loading.Reading.{Reading}
 use Rattle.code_sources.specs.declared.sources.Elements.{Elements}
 use Rattle.code_sources.specs.Sources.{elements_shape, element_value}
 use Rattle.code_sources.specs.Rows.{IsElementAt, reaching, keeping}

@@ -1,11 +1,14 @@
 -- Leaves whose words stand in a row.
-use Rattle.std.specs.Prelude.{◌≡◌, ℕ, ◌+◌, ◌*◌, ◌^◌, ◌<◌, ◌≤◌, List, [], ◌∷◌, length, slice_get, slice_index, Some}
+use Rattle.std.specs.Prelude.{◌≡◌, ◌==◌, ℕ, ◌+◌, ◌*◌, ◌^◌, ◌<◌, ◌≤◌, nat_lt, if◌then◌else◌, List, length, slice_get, slice_index, Option, Some, None, pos, All}
+use Rattle.bit_words.specs.declared.value.Value.{Value}
+use Rattle.prim_ops.specs.Values.{fitted}
+use Rattle.ground_net.specs.Words.{value_at}
 use Rattle.flat_code.specs.declared.instr.Op.TheVariants as op
 use Rattle.flat_code.specs.declared.instr.Instr.{Instr}
 use Rattle.flat_code.specs.declared.instr.Location.{Location}
-use Rattle.flat_code.specs.Meaning.{location_value}
+use Rattle.flat_code.specs.Meaning.{location_value, location_values, place_by}
 use Rattle.code_draft.specs.Drafts.{Wanted}
-use Rattle.code_sources.specs.declared.rows.Reading.{Reading}
+use Rattle.code_sources.specs.declared.loading.Reading.{Reading}
 use Rattle.code_sources.specs.declared.sources.Kept.{Kept}
 use Rattle.code_sources.specs.declared.sources.Source.TheVariants as source
 use Rattle.code_sources.specs.declared.sources.Elements.{Elements}
@@ -25,12 +28,25 @@ pub record StandInRow (S : Sources) (leaves : List ℕ) (e : Elements) : Type 0 
   pub counted : e.region.depth ≡ length leaves
   pub each : (place leaf : ℕ) → slice_get leaves place ≡ Some leaf → IsWordAt S e leaf (e.region.base + place * e.region.stride)
 
--- One index, in whose place the address stands, picks the element; words suffice for both.
-pub record IsReading (S : Sources) (leaves : List ℕ) (indices : List Location) (r : Reading) : Type 0 where
-  pub one : indices ≡ r.address ∷ []
-  pub address_few : r.address.width ≤ 64
-  pub elements_few : r.elements.width ≤ 64
-  pub row : StandInRow S leaves r.elements
+-- how many slots the code of a load takes that has so many indices
+abbrev pub slots_of_load : ℕ → ℕ
+slots_of_load indices = if indices == 1 then 4 else 7 * indices + 5
+
+-- They do, words suffice for them and for the indices, and the code of a load takes at most two slots for each.
+pub record IsRow (S : Sources) (leaves : List ℕ) (indices : List Location) (e : Elements) : Type 0 where
+  pub elements_few : e.width ≤ 64
+  pub indices_few : All (λ s. s.width ≤ 64) indices
+  pub room : slots_of_load (length indices) ≤ 2 * length leaves
+  pub row : StandInRow S leaves e
+
+-- the element at a place, 0 where there is none
+abbrev pub element_at_place : Elements → List ℕ → Option ℕ → Value
+element_at_place e words (Some place) = if nat_lt place e.region.depth then value_at (elements_shape e) words (e.region.base + place * e.region.stride) else fitted e.kind e.width (pos 0)
+element_at_place e words None = fitted e.kind e.width (pos 0)
+
+-- The element that indices pick, where their words are cut to their widths.
+abbrev pub IsPicked : Elements → List Location → List ℕ → Wanted
+IsPicked e indices lengths words inputs F v = (v ≡ element_at_place e words (place_by (location_values F indices) lengths)) × All (λ s. slice_index F s.low < 2 ^ s.width) indices
 
 -- The element whose number stands at the address, where the address's word is cut to its width.
 abbrev pub IsElementAt : Reading → Wanted

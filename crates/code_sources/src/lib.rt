@@ -4,9 +4,10 @@
 #![tactic(auto)]
 
 pub mod loading;
+pub mod places;
 pub mod rows;
 pub mod sources;
 
-pub use loading::load_at;
-pub use rows::{Reading, reading_of};
+pub use loading::load_row;
+pub use rows::row_of;
 pub use sources::{Elements, Kept, Source, Sources};

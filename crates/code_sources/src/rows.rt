@@ -1,49 +1,60 @@
 //! Leaves whose words stand in a row, as those of the registers of a vector.
 
-ghost use Rattle.std.specs.Prelude.{◌≡◌, ◌+◌, ◌*◌, true, IfOk, IfSome};
-ghost use Rattle.code_sources.specs.Rows.{IsWordAt, StandInRow, IsReading};
+ghost use Rattle.std.specs.Prelude.{◌≡◌, ◌≤◌, ◌+◌, ◌*◌, true, All, IfOk, IfSome};
+ghost use Rattle.code_sources.specs.Rows.{IsWordAt, StandInRow, IsRow, slots_of_load};
 
 use crate::sources::{Elements, Kept, Source, Sources};
-use bit_words::{Kind, List};
 use flat_code::{Location, Region};
 use ground_net::Numbers;
 use std::alloc::{AllocError, Global};
 
-/// A read of an element: the number of the element stands at the address.
-#[derive(Clone, Copy)]
-pub struct Reading {
-    pub address: Location,
-    pub elements: Elements,
-}
-
-/// How one of these leaves is read by one load, where there are several, they stand in a row, and words suffice for them and for the
-/// only index. Takes time in proportion to the leaves where they are words of one kind and width.
-pub fn reading_of(
+/// The row in which these leaves stand, where there are several and words suffice for each of them, for the indices that pick one, and for
+/// its place: the code of that takes no more slots than two for each leaf. Takes time in proportion to the leaves where they are words of
+/// one kind and width.
+pub fn row_of(
     alloc: Global,
     sources: &Sources,
     numbers: &Numbers,
     indices: &[Location],
-) -> Result<Option<Reading>, AllocError>
-    ensures { IfOk result (λ o. IfSome o (IsReading sources.now numbers.now indices.now)) }
+) -> Result<Option<Elements>, AllocError>
+    ensures { IfOk result (λ o. IfSome o (IsRow sources.now numbers.now indices.now)) }
 {
-    let [address] = indices else {
+    let Some(row) = guess(sources, numbers) else {
         return Ok(None);
     };
-    let Some(elements) = guess(sources, numbers) else {
-        return Ok(None);
-    };
-    if address.width > 64 || elements.width > 64 {
+    if row.width > 64 || !are_words(indices) {
         return Ok(None);
     }
     let mut leaves = Vec::new(alloc);
     numbers.push_to(&mut leaves)?;
-    if !stand_in_row(sources, leaves.as_slice(), elements) {
+    let room = 2 * leaves.len() as u128;
+    if slots_for(indices.len()) > room || !stand_in_row(sources, leaves.as_slice(), row) {
         return Ok(None);
     }
-    Ok(Some(Reading {
-        address: *address,
-        elements,
-    }))
+    Ok(Some(row))
+}
+
+/// Whether each of these has at most 64 bits.
+fn are_words(indices: &[Location]) -> bool
+    ensures { result ≡ true → All (λ s. s.width ≤ 64) indices.now }
+{
+    for index in indices {
+        if index.width > 64 {
+            return false;
+        }
+    }
+    true
+}
+
+/// How many slots the code of a load takes that has so many indices.
+fn slots_for(indices: usize) -> u128
+    ensures { result ≡ slots_of_load indices }
+{
+    if indices == 1 {
+        4
+    } else {
+        7 * indices as u128 + 5
+    }
 }
 
 /// The row in which the first two of these leaves stand, where there are two.

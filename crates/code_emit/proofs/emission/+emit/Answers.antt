@@ -16,8 +16,8 @@ use Rattle.code_emit.proofs.Spanning.{none_spans, fetched_spans, leaf_spans, loa
 use Rattle.code_emit.proofs.Leaves.{no_leaf, leaf_stands, leaf-Const, leaf-Op, leaf-Mux, leaf-Select, leaf-Indexed, leaf-Load, leaf-Fit}
 use Rattle.code_emit.proofs.Nesting.{nested_shaped, nested_row, nested_emits}
 use Rattle.code_emit.proofs.Following.{mux_spans, op_spans, nested_spans}
-use Rattle.code_sources.specs.Rows.{IsReading}
-use Rattle.code_emit.proofs.Loading.{found, reading_shape, reading_emits, reading_spans}
+use Rattle.code_sources.specs.Rows.{IsRow}
+use Rattle.code_emit.proofs.Loading.{found, row_indices, row_counted, row_some, row_shape, row_emits, row_spans}
 use Rattle.code_emit.proofs.emission.+emit.Goals as goal
 
 pub emit-emit_all-requires : goal.emit-emit_all-requires
@@ -501,19 +501,39 @@ emit-returns-in_ok-lengths-in-Indexed-clause-spans t c =
     ok_so c.wide_value-in-Indexed.result c.wide_value-in-Indexed.ensures.step (λ s st.
     indexed_spans S g ns is ls d b c.wide_value-in-Indexed.new.draft ss s e (subst (SpansAll S (is ++ as_leaves ns) d b) (sym same) both) st)
 
+pub emit-load_row-requires : goal.emit-load_row-requires
+emit-load_row-requires t c =
+    let S = c.args.sources.now in
+    let g = c.args.ground.now in
+    let ns = c.in-Indexed.numbers in
+    let is = c.as_slice-in-Indexed.result.now in
+    let ls = c.as_slice-in-Some-2-2.result.now in
+    let front = c.as_slice-in-Some-2.result.now in
+    let row = c.in-Some-2.row in
+    let e : g ≡ Indexed ns is ls = c.in-Indexed.is ∙ ap₂ (λ os qs. Indexed ns os qs) (sym c.as_slice-in-Indexed.ensures) (sym c.as_slice-in-Some-2-2.ensures) in
+    let reads : IsRow S ns front row = subst (λ xs. IsRow S ns xs row) (c.as_slice-in-Indexed-2.ensures ∙ sym c.as_slice-in-Some-2.ensures) (found _ c.in_ok-row-in-Indexed.field-0 row c.in-Some-2.is c.in_ok-row-in-Indexed.ensures) in
+    let shapes = subst (λ xs. all_of (shapes_in (sources_table S) is) ≡ Some (location_shapes xs)) (sym c.as_slice-in-Some-2.ensures) c.in_ok-front-in-Indexed.ensures.shapes in
+    record {
+      shape = row_indices S g ns is ls c.requires e front row shapes reads;
+      words = reads.indices_few;
+      counted = row_counted S g ns is ls c.requires e front row shapes reads;
+      some = row_some S g ns is ls c.requires e front row shapes reads;
+      few = reads.elements_few;
+    }
+
 pub emit-returns-in-Some-2-clause-shape : goal.emit-returns-in-Some-2-clause-shape
 emit-returns-in-Some-2-clause-shape t c =
     let S = c.args.sources.now in
     let g = c.args.ground.now in
     let ns = c.in-Indexed.numbers in
     let is = c.as_slice-in-Indexed.result.now in
-    let ls = c.in-Indexed.lengths in
-    let front = c.in_ok-front-in-Indexed.front in
-    let r = c.in-Some-2.reading in
-    let e : g ≡ Indexed ns is ls = c.in-Indexed.is ∙ ap (λ os. Indexed ns os ls) (sym c.as_slice-in-Indexed.ensures) in
-    let reads : IsReading S ns front r = subst (λ xs. IsReading S ns xs r) c.as_slice-in-Indexed-2.ensures (found _ c.in_ok-reading-in-Indexed.field-0 r c.in-Some-2.is c.in_ok-reading-in-Indexed.ensures) in
-    let shapes = c.in_ok-front-in-Indexed.ensures.shapes in
-    ok_so c.load_at.result c.load_at.ensures.shape (λ s at. reading_shape S g ns is ls c.requires e front r shapes reads ∙ ap Some (sym at))
+    let ls = c.as_slice-in-Some-2-2.result.now in
+    let front = c.as_slice-in-Some-2.result.now in
+    let row = c.in-Some-2.row in
+    let e : g ≡ Indexed ns is ls = c.in-Indexed.is ∙ ap₂ (λ os qs. Indexed ns os qs) (sym c.as_slice-in-Indexed.ensures) (sym c.as_slice-in-Some-2-2.ensures) in
+    let reads : IsRow S ns front row = subst (λ xs. IsRow S ns xs row) (c.as_slice-in-Indexed-2.ensures ∙ sym c.as_slice-in-Some-2.ensures) (found _ c.in_ok-row-in-Indexed.field-0 row c.in-Some-2.is c.in_ok-row-in-Indexed.ensures) in
+    let shapes = subst (λ xs. all_of (shapes_in (sources_table S) is) ≡ Some (location_shapes xs)) (sym c.as_slice-in-Some-2.ensures) c.in_ok-front-in-Indexed.ensures.shapes in
+    ok_so c.load_row.result c.load_row.ensures.shape (λ s at. row_shape S g ns is ls c.requires e front row shapes reads ∙ ap Some (sym at))
 
 pub emit-returns-in-Some-2-clause-emits : goal.emit-returns-in-Some-2-clause-emits
 emit-returns-in-Some-2-clause-emits t c =
@@ -521,14 +541,14 @@ emit-returns-in-Some-2-clause-emits t c =
     let g = c.args.ground.now in
     let ns = c.in-Indexed.numbers in
     let is = c.as_slice-in-Indexed.result.now in
-    let ls = c.in-Indexed.lengths in
-    let front = c.in_ok-front-in-Indexed.front in
-    let r = c.in-Some-2.reading in
-    let e : g ≡ Indexed ns is ls = c.in-Indexed.is ∙ ap (λ os. Indexed ns os ls) (sym c.as_slice-in-Indexed.ensures) in
-    let reads : IsReading S ns front r = subst (λ xs. IsReading S ns xs r) c.as_slice-in-Indexed-2.ensures (found _ c.in_ok-reading-in-Indexed.field-0 r c.in-Some-2.is c.in_ok-reading-in-Indexed.ensures) in
-    let shapes = c.in_ok-front-in-Indexed.ensures.shapes in
-    ok_so c.load_at.result c.load_at.ensures.makes (λ s m.
-    reading_emits S g ns is ls c.requires e front r shapes reads c.args.draft.now c.emit_all-in-Indexed.new.draft c.load_at.new.draft s c.in_ok-front-in-Indexed.ensures.emits m)
+    let ls = c.as_slice-in-Some-2-2.result.now in
+    let front = c.as_slice-in-Some-2.result.now in
+    let row = c.in-Some-2.row in
+    let e : g ≡ Indexed ns is ls = c.in-Indexed.is ∙ ap₂ (λ os qs. Indexed ns os qs) (sym c.as_slice-in-Indexed.ensures) (sym c.as_slice-in-Some-2-2.ensures) in
+    let reads : IsRow S ns front row = subst (λ xs. IsRow S ns xs row) (c.as_slice-in-Indexed-2.ensures ∙ sym c.as_slice-in-Some-2.ensures) (found _ c.in_ok-row-in-Indexed.field-0 row c.in-Some-2.is c.in_ok-row-in-Indexed.ensures) in
+    let shapes = subst (λ xs. all_of (shapes_in (sources_table S) is) ≡ Some (location_shapes xs)) (sym c.as_slice-in-Some-2.ensures) c.in_ok-front-in-Indexed.ensures.shapes in
+    let all = subst (EmitsAll S is c.args.draft.now c.emit_all-in-Indexed.new.draft) (sym c.as_slice-in-Some-2.ensures) c.in_ok-front-in-Indexed.ensures.emits in
+    ok_so c.load_row.result c.load_row.ensures.makes (λ s m. row_emits S g ns is ls c.requires e front row shapes reads c.args.draft.now c.emit_all-in-Indexed.new.draft c.load_row.new.draft s all m)
 
 pub emit-returns-in-Some-2-clause-spans : goal.emit-returns-in-Some-2-clause-spans
 emit-returns-in-Some-2-clause-spans t c =
@@ -536,11 +556,11 @@ emit-returns-in-Some-2-clause-spans t c =
     let g = c.args.ground.now in
     let ns = c.in-Indexed.numbers in
     let is = c.as_slice-in-Indexed.result.now in
-    let ls = c.in-Indexed.lengths in
-    let front = c.in_ok-front-in-Indexed.front in
-    let r = c.in-Some-2.reading in
-    let e : g ≡ Indexed ns is ls = c.in-Indexed.is ∙ ap (λ os. Indexed ns os ls) (sym c.as_slice-in-Indexed.ensures) in
-    let reads : IsReading S ns front r = subst (λ xs. IsReading S ns xs r) c.as_slice-in-Indexed-2.ensures (found _ c.in_ok-reading-in-Indexed.field-0 r c.in-Some-2.is c.in_ok-reading-in-Indexed.ensures) in
-    let shapes = c.in_ok-front-in-Indexed.ensures.shapes in
-    ok_so c.load_at.result c.load_at.ensures.segment (λ s seg.
-    reading_spans S g ns is ls c.requires e front r shapes reads c.args.draft.now c.emit_all-in-Indexed.new.draft c.load_at.new.draft s c.in_ok-front-in-Indexed.ensures.spans seg)
+    let ls = c.as_slice-in-Some-2-2.result.now in
+    let front = c.as_slice-in-Some-2.result.now in
+    let row = c.in-Some-2.row in
+    let e : g ≡ Indexed ns is ls = c.in-Indexed.is ∙ ap₂ (λ os qs. Indexed ns os qs) (sym c.as_slice-in-Indexed.ensures) (sym c.as_slice-in-Some-2-2.ensures) in
+    let reads : IsRow S ns front row = subst (λ xs. IsRow S ns xs row) (c.as_slice-in-Indexed-2.ensures ∙ sym c.as_slice-in-Some-2.ensures) (found _ c.in_ok-row-in-Indexed.field-0 row c.in-Some-2.is c.in_ok-row-in-Indexed.ensures) in
+    let shapes = subst (λ xs. all_of (shapes_in (sources_table S) is) ≡ Some (location_shapes xs)) (sym c.as_slice-in-Some-2.ensures) c.in_ok-front-in-Indexed.ensures.shapes in
+    let all = subst (SpansAll S is c.args.draft.now c.emit_all-in-Indexed.new.draft) (sym c.as_slice-in-Some-2.ensures) c.in_ok-front-in-Indexed.ensures.spans in
+    ok_so c.load_row.result c.load_row.ensures.segment (λ s seg. row_spans S g ns is ls c.requires e front row shapes reads c.args.draft.now c.emit_all-in-Indexed.new.draft c.load_row.new.draft s all seg)
