@@ -1,44 +1,41 @@
 -- Leaves in a row, of which an index picks one.
-use Rattle.std.proofs.Common.{◌≡◌, ◌==◌, ◌&&◌, ℕ, zero, suc, get_or, slice_get, slice_index, nat_lt, ◌^◌, ◌<◌, ◌+◌, ◌*◌, ◌≤◌, max, pos, Bool, true, false, true≢false, List, [], ◌∷◌, ◌++◌, map, flat_map, length, Option, Some, None, option_map, option_and_then, refl, sym, subst, ap, ap₂, ◌∙◌, arith, ⊎_elim, inl, inr, if◌then◌else◌, All}
+use Rattle.std.proofs.Common.{◌≡◌, ◌==◌, ◌&&◌, ℕ, suc, get_or, slice_get, slice_index, ◌^◌, ◌<◌, ◌+◌, ◌*◌, ◌≤◌, max, pos, true, true≢false, List, [], ◌∷◌, ◌++◌, map, flat_map, length, Option, Some, None, option_map, option_and_then, refl, sym, subst, ap, ap₂, ◌∙◌, arith, ⊎_elim, inl, inr, if◌then◌else◌, All}
 use Rattle.std.specs.Prelude.{IsSome, IfSome, sum, sum_by}
 use Rattle.std.specs.List.{list_all}
 use Rattle.std.proofs.lemmas.Bool.{lt-ltb, le-ltb, cases_lt}
 use Rattle.std.proofs.lemmas.Grind.{common_steps, flat_map-append}
-use Rattle.std.proofs.lemmas.List.{length-map, append-nil}
+use Rattle.std.proofs.lemmas.List.{length-map}
 use Rattle.std.proofs.lemmas.List.Sums.{sum-map}
 use Rattle.std.proofs.lemmas.Option.{slice_get-get_or, slice_get-map, slice_get_past}
-use Rattle.bit_words.specs.declared.value.Kind.{Kind}
-use Rattle.bit_words.specs.declared.value.Kind.TheVariants.{Unsigned, Signed}
 use Rattle.bit_words.specs.declared.value.Value.{Value}
-use Rattle.bit_words.specs.Values.{integer, integer_of}
-use Rattle.prim_ops.specs.Values.{fitted, lone}
+use Rattle.bit_words.specs.Values.{integer_of}
+use Rattle.prim_ops.specs.Values.{fitted}
 use Rattle.ground_net.specs.declared.ground.Ground.{Ground}
 use Rattle.ground_net.specs.declared.ground.Ground.TheVariants.{Indexed}
 use Rattle.ground_net.specs.Grounds.{Instant, value, mentions, element_count, place, indexed, or_zero}
-use Rattle.ground_net.specs.Shapes.{Shape, shaped, Table, shape, all_of, shape_of_value, are_index_shapes, shape_of_items, is_unsigned, same_shape}
+use Rattle.ground_net.specs.Shapes.{Shape, Table, shape, all_of, shape_of_value, are_index_shapes, shape_of_items, same_shape}
 use Rattle.ground_net.specs.Words.{value_at, high_at}
 use Rattle.ground_net.proofs.Layers.{values, all_mentions, value-Indexed, mentions-Indexed}
 use Rattle.ground_net.proofs.Shaping.{and_then, both_true, if_some, fitted_shape}
 use Rattle.flat_code.specs.declared.instr.Location.{Location}
-use Rattle.flat_code.specs.Meaning.{location_shape, location_values, place_by}
+use Rattle.flat_code.specs.Meaning.{location_values, place_by}
 use Rattle.flat_code.specs.Fine.{among, further_words, location_shapes, location_slots, slots_of, InRegion}
 use Rattle.code_draft.specs.declared.draft.Draft.{Draft}
-use Rattle.code_draft.specs.Drafts.{IsDraft, Stands, Makes, Solved}
+use Rattle.code_draft.specs.Drafts.{IsDraft, Stands, Makes}
 use Rattle.code_draft.specs.Segments.{Segment}
 use Rattle.code_draft.proofs.Growing.{grows_then}
 use Rattle.code_draft.proofs.Joining.{segment_then, segment_weaker}
 use Rattle.code_draft.proofs.Segmenting.{among_left}
 use Rattle.code_draft.proofs.Stepping.{location_few}
 use Rattle.code_sources.specs.declared.sources.Elements.{Elements}
-use Rattle.code_sources.specs.declared.sources.Source.{Source}
 use Rattle.code_sources.specs.declared.sources.Source.TheVariants as source
 use Rattle.code_sources.specs.declared.sources.Sources.{Sources}
 use Rattle.code_sources.specs.Rows.{IsWordAt, StandInRow, IsRow, IsPicked, element_at_place, slots_of_load}
-use Rattle.code_emit.specs.Emits.{leaf_source, source_shape, elements_shape, element_value, AreSources, shapes_in, sources_table, Sees, Emits, EmitsAll}
+use Rattle.code_emit.specs.Emits.{source_shape, elements_shape, AreSources, shapes_in, sources_table, Sees, Emits, EmitsAll}
 use Rattle.code_emit.specs.Counts.{tips}
 use Rattle.code_emit.specs.Spans.{leaf_slots, ground_slots, Spans, SpansAll}
 use Rattle.code_emit.proofs.Counting.{tips-Indexed}
-use Rattle.code_emit.proofs.Shaped.{some_same, none_some, locations_are, indexed_parts}
+use Rattle.code_emit.proofs.Shaped.{some_same, locations_are, indexed_parts}
 use Rattle.code_emit.proofs.Spanning.{slots_each}
 
 -- What stands in a row

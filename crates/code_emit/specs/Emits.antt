@@ -1,20 +1,18 @@
 -- Where the values of leaves and of memories are found, and code that computes the value of an expression.
-use Rattle.std.specs.Prelude.{◌≡◌, ℕ, ◌+◌, ◌*◌, ◌<◌, List, map, slice_get, Option, Some, option_map, option_and_then, nat_lt, if◌then◌else◌, pos, All, IsSome}
+use Rattle.std.specs.Prelude.{◌≡◌, ℕ, ◌+◌, ◌<◌, List, map, Option, Some, option_map, All, IsSome}
 use Rattle.bit_words.specs.declared.value.Kind.TheVariants.{Unsigned}
 use Rattle.bit_words.specs.declared.value.Value.{Value}
-use Rattle.prim_ops.specs.Values.{fitted}
 use Rattle.ground_net.specs.declared.ground.Ground.{Ground}
 use Rattle.ground_net.specs.declared.ground.Ground.TheVariants.{Leaf}
 use Rattle.ground_net.specs.Grounds.{Instant, value}
-use Rattle.ground_net.specs.Shapes.{Shape, shaped, shape_of_value, Table, shape}
+use Rattle.ground_net.specs.Shapes.{Shape, shape_of_value, Table, shape}
 use Rattle.ground_net.specs.Words.{value_at}
 use Rattle.flat_code.specs.declared.instr.Location.{Location}
-use Rattle.flat_code.specs.Meaning.{location_shape, location_values}
+use Rattle.flat_code.specs.Meaning.{location_values}
 use Rattle.flat_code.specs.Fine.{InRegion, further_words}
 use Rattle.code_draft.specs.declared.draft.Draft.{Draft}
 use Rattle.code_draft.specs.Drafts.{IsDraft, Solved, Grows, Stands, Makes, Wanted, Holds, input_value}
 use Rattle.code_emit.specs.Ways.{Cut}
-use Rattle.code_sources.specs.declared.sources.Kept.{Kept}
 use Rattle.code_sources.specs.declared.sources.Source.{Source}
 use Rattle.code_sources.specs.declared.sources.Source.TheVariants as source
 use Rattle.code_sources.specs.declared.sources.Elements.{Elements}

@@ -1,10 +1,8 @@
 -- Elements that indices pick.
-use Rattle.std.proofs.Common.{◌≡◌, ◌==◌, ℕ, suc, ◌+◌, ◌*◌, ◌^◌, ◌<◌, ◌≤◌, Bool, true, false, true≢false, nat_lt, if◌then◌else◌, List, [], ◌∷◌, ◌++◌, map, length, slice_index, get_or, Option, Some, None, pos, All, refl, sym, subst, ap, ap₂, ◌∙◌, arith, ⊎_elim, inl, inr}
-use Rattle.std.proofs.lemmas.Bool.{lt-ltb, le-ltb, cases_lt}
+use Rattle.std.proofs.Common.{◌≡◌, ◌==◌, ℕ, ◌+◌, ◌*◌, ◌^◌, ◌<◌, ◌≤◌, Bool, true, false, true≢false, nat_lt, if◌then◌else◌, List, [], ◌∷◌, length, slice_index, get_or, Option, Some, None, pos, All, refl, sym, subst, ap, ◌∙◌, arith, ⊎_elim}
+use Rattle.std.proofs.lemmas.Bool.{le-ltb}
 use Rattle.std.proofs.lemmas.List.{append-nil}
 use Rattle.bit_words.specs.declared.value.Kind.TheVariants.{Unsigned}
-use Rattle.bit_words.specs.declared.value.Value.{Value}
-use Rattle.bit_words.specs.Values.{integer_of}
 use Rattle.prim_ops.specs.Values.{fitted}
 use Rattle.ground_net.specs.Grounds.{element_count, place}
 use Rattle.ground_net.specs.Shapes.{Shape, are_index_shapes, is_unsigned}
@@ -14,11 +12,10 @@ use Rattle.flat_code.specs.declared.instr.Location.{Location}
 use Rattle.flat_code.specs.Meaning.{location_shape, location_value, location_values, place_by}
 use Rattle.flat_code.specs.Fine.{InRegion, among, location_shapes, location_slots, slots_of}
 use Rattle.code_draft.specs.declared.draft.Draft.{Draft}
-use Rattle.code_draft.specs.Drafts.{IsDraft, Makes, Stands, written_in}
+use Rattle.code_draft.specs.Drafts.{Makes, Stands, written_in}
 use Rattle.code_draft.specs.Segments.{Segment}
 use Rattle.code_draft.proofs.Growing.{grows_then, one_known, one_among}
 use Rattle.code_draft.proofs.Joining.{segment_weaker}
-use Rattle.code_draft.proofs.Segmenting.{among_left, among_either, none_among}
 use Rattle.code_draft.proofs.Stepping.{location_few}
 use Rattle.code_sources.specs.declared.loading.Reading.{Reading}
 use Rattle.code_sources.specs.declared.sources.Elements.{Elements}

@@ -1,5 +1,5 @@
 -- Words of slots that tell places.
-use Rattle.std.proofs.Common.{◌≡◌, ℕ, zero, suc, ◌+◌, ◌-◌, ◌*◌, ◌%◌, ◌^◌, ◌<◌, ◌≤◌, Bool, true, false, true≢false, nat_lt, if◌then◌else◌, List, [], ◌∷◌, ◌++◌, map, flat_map, length, slice_index, get_or, drop, Option, Some, None, option_map, ℤ, pos, bit_and, All, refl, sym, subst, ap, ap₂, ◌∙◌, arith, ⊎_elim, inl, inr, append_assoc, mod-eq_of_lt, mod-lt, pow_pos, pow_mono, pow-add, drop-cons, ◌==◌, ◌⊎◌}
+use Rattle.std.proofs.Common.{◌≡◌, ℕ, zero, suc, ◌+◌, ◌-◌, ◌*◌, ◌%◌, ◌^◌, ◌<◌, ◌≤◌, Bool, true, false, true≢false, nat_lt, if◌then◌else◌, List, [], ◌∷◌, ◌++◌, map, length, slice_index, get_or, drop, Option, Some, None, option_map, pos, bit_and, All, refl, sym, subst, ap, ap₂, ◌∙◌, arith, ⊎_elim, inl, inr, append_assoc, mod-eq_of_lt, mod-lt, pow_pos, pow_mono, pow-add, drop-cons, ◌==◌, ◌⊎◌}
 use Rattle.std.specs.Prelude.{Result, Ok, Err, IfOk, OnOk}
 use Rattle.std.specs.List.{range_with_len}
 use Rattle.std.proofs.lemmas.Bool.{lt-ltb, le-ltb, cases_lt}
@@ -15,20 +15,18 @@ use Rattle.ground_net.proofs.Shaping.{both_true}
 use Rattle.flat_code.specs.declared.instr.Instr.{Instr}
 use Rattle.flat_code.specs.declared.instr.Location.{Location}
 use Rattle.flat_code.specs.declared.instr.Op.TheVariants as op
-use Rattle.flat_code.specs.declared.instr.Port.{Port}
-use Rattle.flat_code.specs.declared.instr.Wide.{Wide}
 use Rattle.flat_code.specs.Meaning.{location_high, location_shape, location_value, location_values, place_by}
 use Rattle.flat_code.specs.Fine.{AreKnown, Known, among, nothing, location_shapes, location_slots, slots_of, reads_of, writes_of}
 use Rattle.code_draft.specs.declared.draft.Draft.{Draft}
 use Rattle.code_draft.specs.Drafts.{IsDraft, Grows, Solved, Computes, Works, word_in, written_in, with_instr, with_slots, at_slot}
-use Rattle.code_draft.specs.Segments.{GoesOn, Segment, Step}
-use Rattle.code_draft.proofs.Growing.{grows_then, one_known, two_known, one_among, two_among, among_first, among_second}
+use Rattle.code_draft.specs.Segments.{Segment, Step}
+use Rattle.code_draft.proofs.Growing.{grows_then, two_known, one_among, two_among, among_first, among_second}
 use Rattle.code_draft.proofs.Cuts.{fitted_bits, masked}
 use Rattle.code_draft.proofs.Joining.{goes_then}
-use Rattle.code_draft.proofs.Segmenting.{map_all, few_written, none_among, left_so, right_so, either, among_left, among_right}
+use Rattle.code_draft.proofs.Segmenting.{map_all, few_written, left_so, right_so, either, among_left, among_right}
 use Rattle.code_draft.proofs.Stepping.{computed_step}
 use Rattle.code_sources.specs.declared.places.Level.{Level}
-use Rattle.code_sources.specs.Places.{Tells, IsCut, on_slots, Gives, Adds, offset_word, guarded_word, level_word, GivesLevel, Finds}
+use Rattle.code_sources.specs.Places.{Tells, IsCut, on_slots, Gives, Adds, offset_word, guarded_word, GivesLevel, Finds}
 
 -- Words one after the other
 

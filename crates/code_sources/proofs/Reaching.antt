@@ -1,34 +1,31 @@
 -- Words that are loaded from elements.
-use Rattle.std.proofs.Common.{◌≡◌, ℕ, ◌+◌, ◌-◌, ◌*◌, ◌/◌, ◌%◌, ◌^◌, ◌<◌, ◌≤◌, Bool, true, false, nat_lt, if◌then◌else◌, List, [], ◌∷◌, length, slice_index, pos, bit_and, refl, sym, subst, ap, ap₂, ◌∙◌, arith}
-use Rattle.std.proofs.lemmas.Bool.{le-ltb}
+use Rattle.std.proofs.Common.{◌≡◌, ℕ, ◌+◌, ◌-◌, ◌*◌, ◌/◌, ◌%◌, ◌^◌, ◌<◌, ◌≤◌, Bool, true, false, nat_lt, if◌then◌else◌, List, [], ◌∷◌, length, slice_index, pos, bit_and, refl, sym, subst, ap, ap₂, ◌∙◌, arith, ⊎_elim}
+use Rattle.std.proofs.lemmas.Bool.{lt-ltb, le-ltb}
 use Rattle.std.proofs.lemmas.List.Elements.{All-cons, All-nil}
 use Rattle.bit_words.specs.declared.value.Kind.{Kind}
-use Rattle.bit_words.specs.declared.value.Kind.TheVariants.{Unsigned}
-use Rattle.bit_words.specs.declared.value.Value.{Value}
 use Rattle.prim_ops.specs.Values.{fitted}
-use Rattle.ground_net.specs.Shapes.{Shape, shaped, shape_of_value}
+use Rattle.ground_net.specs.Shapes.{Shape}
 use Rattle.ground_net.specs.Words.{value_at}
 use Rattle.flat_code.specs.declared.instr.Op.TheVariants as op
 use Rattle.flat_code.specs.declared.instr.Instr.{Instr}
-use Rattle.flat_code.specs.declared.instr.Port.{Port}
 use Rattle.flat_code.specs.declared.instr.Location.{Location}
 use Rattle.flat_code.specs.declared.instr.Region.{Region}
-use Rattle.flat_code.specs.declared.instr.Wide.{Wide}
-use Rattle.flat_code.specs.Meaning.{acted_on, element_word, location_value, location_high, location_shape, word_on}
-use Rattle.flat_code.specs.Fine.{AreKnown, InRegion, IsLocation, among, further_words, location_slots, reads_of, reads_on, writes_of, writes_on}
-use Rattle.flat_code.specs.Orders.{Solves, AreNew}
+use Rattle.flat_code.specs.Meaning.{acted_on, element_word, location_value, location_shape, word_on}
+use Rattle.flat_code.specs.Fine.{AreKnown, InRegion, among, further_words, location_slots, reads_of, reads_on, writes_of, writes_on}
+use Rattle.flat_code.specs.Orders.{Solves}
 use Rattle.code_draft.specs.declared.draft.Draft.{Draft}
-use Rattle.code_draft.specs.Drafts.{IsDraft, Grows, Stands, Solved, Holds, Makes, Computes, Works, at_slot, written_in, with_instr, with_slots}
+use Rattle.code_draft.specs.Drafts.{IsDraft, Stands, Makes, Computes, Works, at_slot, written_in, with_instr, with_slots}
 use Rattle.code_draft.specs.Segments.{Segment, Step}
-use Rattle.code_draft.proofs.Growing.{Follows, grows_instr, grows_slots, grows_then, all_last, one_new, one_known, one_among, unwritten, written_here, among_first}
-use Rattle.code_draft.proofs.Fetches.{put_there, cut_narrow}
-use Rattle.code_draft.proofs.Cuts.{fitted_bits}
-use Rattle.code_draft.proofs.Joining.{goes_same, small_step, step_then, segment_weaker}
-use Rattle.code_draft.proofs.Stepping.{computed_step}
+use Rattle.code_draft.proofs.Growing.{Follows, grows_instr, grows_slots, grows_then, all_last, one_new, one_known, one_among, unwritten, written_here, among_first, two_known, two_among}
+use Rattle.code_draft.proofs.Fetches.{put_there, cut_narrow, cut_wide}
+use Rattle.code_draft.proofs.Cuts.{masked}
+use Rattle.code_draft.proofs.Joining.{goes_same, small_step}
 use Rattle.code_sources.specs.declared.loading.Reading.{Reading}
 use Rattle.code_sources.specs.declared.sources.Elements.{Elements}
 use Rattle.code_sources.specs.Sources.{elements_shape, element_value}
-use Rattle.code_sources.specs.Rows.{IsElementAt, reaching, keeping}
+use Rattle.code_sources.specs.Rows.{IsElementAt, reaching, keeping, GivesWordOf}
+use Rattle.code_sources.specs.Places.{Adds}
+use Rattle.code_sources.proofs.Placing.{bits_at, adds_step, adds_one, adds_then, small_adds}
 
 -- The instruction
 
@@ -93,75 +90,163 @@ last_within m width r some h = last_there r.base r.stride r.depth (r.depth - 1) 
 no_more : (n : ℕ) → n + 0 * 2 ^ 64 ≡ n
 no_more n = omega arith
 
--- an element of one word, and 0
-either_fitted : (b : Bool) (kind : Kind) (width x : ℕ) → (if b then fitted kind width (pos (x + 0 * 2 ^ 64)) else fitted kind width (pos 0)) ≡ fitted kind width (pos ((if b then x else 0) + 0 * 2 ^ 64))
-either_fitted true kind width x = refl
-either_fitted false kind width x = refl
+-- the high words too
+pub last_high : (m width : ℕ) (r next : Region) → 0 < r.depth → 64 < width → next.base ≡ r.base + 1 → next.depth ≡ r.depth → next.stride ≡ r.stride → InRegion m width r → next.base + (next.depth - 1) * next.stride < m
+last_high m width r next some many base depth stride h =
+    let one : further_words width ≡ 1 = ap (λ b. if b then 1 else 0) (lt-ltb 64 width many) in
+    let last = h (r.depth - 1) (omega (arith, some)) in
+    let same : (next.depth - 1) * next.stride ≡ (r.depth - 1) * r.stride = ap₂ (λ d s. (d - 1) * s) depth stride in
+    omega (arith, one, last, same, base)
 
-module _ (r : Reading) (words F : List ℕ) (few : r.elements.width ≤ 64) (narrow : r.address.width ≤ 64) (cut : slice_index F r.address.low < 2 ^ r.address.width) where
-  pub address_bits : (location_value F r.address).bits ≡ slice_index F r.address.low
-  address_bits =
-      let low = slice_index F r.address.low in
-      let one : nat_lt 64 r.address.width ≡ false = le-ltb 64 r.address.width narrow in
-      fitted_bits r.address.kind r.address.width (low + location_high F r.address * 2 ^ 64) (omega (arith, narrow))
-      ∙ (ap (λ b. (low + (if b then slice_index F r.address.high else 0) * 2 ^ 64) % 2 ^ r.address.width) one ∙ (ap (λ n. n % 2 ^ r.address.width) (no_more low) ∙ small low (2 ^ r.address.width) cut))
+-- The instructions
+
+pub word_loads : (a b c : Draft) (address k slot mask : ℕ) (r : Region) → Works a b (reaching address r) k → Works b c (keeping k mask) slot → GivesWordOf a c address r mask slot
+word_loads a b c address k slot mask r first next = record {
+  grows = grows_then a b c first.grows next.grows;
+  within = next.within;
+  written = next.written;
+  holds = λ words inputs F sol. next.holds words inputs F sol ∙ ap (λ n. bit_and n mask) (first.holds words inputs F (next.grows.back words inputs F sol));
+}
+
+small_word : (b : Bool) (x : ℕ) → x < 2 ^ 64 → (if b then x else 0) < 2 ^ 64
+small_word true x h = h
+small_word false x h = omega arith
+
+-- a word that is whole
+pub whole_loads : (a b : Draft) (address k mask : ℕ) (r : Region) → mask ≡ 2 ^ 64 - 1 → Works a b (reaching address r) k → GivesWordOf a b address r mask k
+whole_loads a b address k mask r m w = record {
+  grows = w.grows;
+  within = w.within;
+  written = w.written;
+  holds = λ words inputs F sol.
+      let n = slice_index F address in
+      let x = element_word words (reaching address r) n in
+      let small : x < 2 ^ 64 = small_word (nat_lt n r.depth) (slice_index words (r.base + n * r.stride)) (sol.plain (r.base + n * r.stride)) in
+      w.holds words inputs F sol ∙ sym (masked x 64 mask m ∙ mod_small x small);
+}
+  where
+    mod_small : (m : ℕ) → m < 2 ^ 64 → m % 2 ^ 64 ≡ m
+    mod_small m less = Rattle.std.proofs.Common.mod-eq_of_lt less
+
+pub whole_adds : (a b : Draft) (address : ℕ) (r : Region) → b ≡ with_instr (with_slots a 1) (at_slot a.slots (reaching address r)) → Adds a b (address ∷ [])
+whole_adds a b address r first = adds_step a b (address ∷ []) (a.slots ∷ []) 2 (subst (λ x. Step a x (address ∷ []) (a.slots ∷ []) 2) (sym first) (loads_step a (reaching address r) refl))
+
+-- an element, and 0
+either_fitted : (b : Bool) (kind : Kind) (width x y : ℕ) → (if b then fitted kind width (pos (x + y * 2 ^ 64)) else fitted kind width (pos 0)) ≡ fitted kind width (pos ((if b then x else 0) + (if b then y else 0) * 2 ^ 64))
+either_fitted true kind width x y = refl
+either_fitted false kind width x y = refl
+
+module _ (r : Reading) (words F : List ℕ) (narrow : r.address.width ≤ 64) (cut : slice_index F r.address.low < 2 ^ r.address.width) where
+  abbrev e : Elements
+  e = r.elements
+
+  abbrev a : ℕ
+  a = slice_index F r.address.low
+
+  abbrev at : ℕ
+  at = e.region.base + a * e.region.stride
+
+  value_by : (location_value F r.address).bits ≡ a → element_value e words (location_value F r.address) ≡ (if nat_lt a e.region.depth then value_at (elements_shape e) words at else fitted e.kind e.width (pos 0))
+  value_by bits = ap (λ n. if nat_lt n e.region.depth then value_at (elements_shape e) words (e.region.base + n * e.region.stride) else fitted e.kind e.width (pos 0)) bits
+
+  pub narrow_fitted : e.width ≤ 64 → element_value e words (location_value F r.address) ≡ fitted e.kind e.width (pos (element_word words (reaching r.address.low e.region) a + 0 * 2 ^ 64))
+  narrow_fitted few =
+      value_by (bits_at F r.address narrow cut)
+      ∙ (ap (λ b. if nat_lt a e.region.depth then fitted e.kind e.width (pos (slice_index words at + (if b then slice_index words (at + 1) else 0) * 2 ^ 64)) else fitted e.kind e.width (pos 0)) (le-ltb 64 e.width few)
+      ∙ (either_fitted (nat_lt a e.region.depth) e.kind e.width (slice_index words at) 0 ∙ ap (λ z. fitted e.kind e.width (pos (element_word words (reaching r.address.low e.region) a + z * 2 ^ 64))) (nothing (nat_lt a e.region.depth) 0)))
     where
-      small : (n m : ℕ) → n < m → n % m ≡ n
-      small n m lt = Rattle.std.proofs.Common.mod-eq_of_lt lt
+      nothing : (b : Bool) (z : ℕ) → (if b then z else z) ≡ z
+      nothing true z = refl
+      nothing false z = refl
 
-  pub element_fitted : element_value r.elements words (location_value F r.address)
-      ≡ fitted r.elements.kind r.elements.width (pos (element_word words (reaching r) (slice_index F r.address.low) + 0 * 2 ^ 64))
-  element_fitted =
-      let e = r.elements in
-      let g = e.region in
-      let a = slice_index F r.address.low in
-      let one : nat_lt 64 e.width ≡ false = le-ltb 64 e.width few in
-      ap (λ n. if nat_lt n g.depth then value_at (elements_shape e) words (g.base + n * g.stride) else fitted e.kind e.width (pos 0)) address_bits
-      ∙ ap (λ b. if nat_lt a g.depth then fitted e.kind e.width (pos (slice_index words (g.base + a * g.stride) + (if b then slice_index words (g.base + a * g.stride + 1) else 0) * 2 ^ 64)) else fitted e.kind e.width (pos 0)) one
-      ∙ either_fitted (nat_lt a g.depth) e.kind e.width (slice_index words (g.base + a * g.stride))
+  pub wide_fitted : (next : Region) → 64 < e.width → next.base ≡ e.region.base + 1 → next.depth ≡ e.region.depth → next.stride ≡ e.region.stride
+      → element_value e words (location_value F r.address) ≡ fitted e.kind e.width (pos (element_word words (reaching r.address.low e.region) a + element_word words (reaching r.address.low next) a * 2 ^ 64))
+  wide_fitted next many base depth stride =
+      let there : at + 1 ≡ next.base + a * next.stride = let same : a * next.stride ≡ a * e.region.stride = ap (λ s. a * s) stride in omega (arith, base, same) in
+      value_by (bits_at F r.address narrow cut)
+      ∙ (ap (λ b. if nat_lt a e.region.depth then fitted e.kind e.width (pos (slice_index words at + (if b then slice_index words (at + 1) else 0) * 2 ^ 64)) else fitted e.kind e.width (pos 0)) (lt-ltb 64 e.width many)
+      ∙ (either_fitted (nat_lt a e.region.depth) e.kind e.width (slice_index words at) (slice_index words (at + 1))
+      ∙ ap₂ (λ k d. fitted e.kind e.width (pos (element_word words (reaching r.address.low e.region) a + (if nat_lt a d then slice_index words k else 0) * 2 ^ 64))) there (sym depth)))
 
--- Both instructions
+-- Whole elements
 
-module _ (r : Reading) (s : Location) (slot : ℕ) (at : location_shape s ≡ elements_shape r.elements) (low : s.low ≡ slot) (high : s.high ≡ slot) (few : r.elements.width ≤ 64) where
-  width_is : s.width ≡ r.elements.width
-  width_is = ap (λ (t : Shape). t.width) at
+pub narrow_makes : (r : Reading) (s : Location) (slot mask : ℕ) (a b : Draft) → location_shape s ≡ elements_shape r.elements → s.low ≡ slot → s.high ≡ slot → r.address.width ≤ 64 → r.elements.width ≤ 64 → mask ≡ 2 ^ r.elements.width - 1
+    → GivesWordOf a b r.address.low r.elements.region mask slot → Makes a b s (IsElementAt r)
+narrow_makes r s slot mask a b shape low high narrow few m g =
+    let width : s.width ≡ r.elements.width = ap (λ (t : Shape). t.width) shape in
+    let one : location_slots s ≡ slot ∷ [] = ap (λ b. if b then s.low ∷ s.high ∷ [] else s.low ∷ []) (ap (nat_lt 64) width ∙ le-ltb 64 r.elements.width few) ∙ ap (λ k. k ∷ []) low in
+    let lt = g.within in
+    record {
+      grows = g.grows;
+      stands = record { within = record { low = omega (arith, low, lt); high = omega (arith, high, lt) }; written = subst (AreKnown (written_in b)) (sym one) (one_known (written_in b) slot g.written) };
+      holds = λ words inputs F v sol wanted.
+          let e = r.elements in
+          let x = element_word words (reaching r.address.low e.region) (slice_index F r.address.low) in
+          let parts = cut_narrow e.kind e.width x 0 mask v few m (wanted.0 ∙ narrow_fitted r words F narrow wanted.1 few) in
+          record {
+            shape = parts.0 ∙ sym shape;
+            low = ap (slice_index F) low ∙ (g.holds words inputs F sol ∙ parts.1);
+            high = λ many. absurd (omega (arith, many, width, few));
+          };
+    }
 
-  one_slot : location_slots s ≡ slot ∷ []
-  one_slot = ap (λ b. if b then s.low ∷ s.high ∷ [] else s.low ∷ []) (ap (nat_lt 64) width_is ∙ le-ltb 64 r.elements.width few) ∙ ap (λ k. k ∷ []) low
-
-  pub element_makes : (a b c : Draft) (k mask : ℕ) → r.address.width ≤ 64 → mask ≡ 2 ^ r.elements.width - 1 → Works a b (reaching r) k → Works b c (keeping k mask) slot → Makes a c s (IsElementAt r)
-  element_makes a b c k mask narrow m first next = record {
-    grows = grows_then a b c first.grows next.grows;
-    stands = record {
-      within = (let lt = next.within in record { low = omega (arith, low, lt); high = omega (arith, high, lt) });
-      written = subst (AreKnown (written_in c)) (sym one_slot) (one_known (written_in c) slot next.written);
-    };
-    holds = λ words inputs F v sol wanted.
-        let e = r.elements in
-        let x = element_word words (reaching r) (slice_index F r.address.low) in
-        let loaded : slice_index F k ≡ x = first.holds words inputs F (next.grows.back words inputs F sol) in
-        let parts = cut_narrow e.kind e.width x 0 mask v few m (wanted.0 ∙ element_fitted r words F few narrow wanted.1) in
-        record {
-          shape = parts.0 ∙ sym at;
-          low = ap (slice_index F) low ∙ (next.holds words inputs F sol ∙ (ap (λ n. bit_and n mask) loaded ∙ parts.1));
-          high = λ many. absurd (omega (arith, many, width_is, few));
-        };
-  }
+pub wide_makes : (r : Reading) (s : Location) (low high mask upper : ℕ) (next : Region) (a b c : Draft) → location_shape s ≡ elements_shape r.elements → s.low ≡ low → s.high ≡ high → r.address.width ≤ 64 → 64 < r.elements.width
+    → mask ≡ 2 ^ 64 - 1 → upper ≡ 2 ^ (r.elements.width - 64) - 1 → next.base ≡ r.elements.region.base + 1 → next.depth ≡ r.elements.region.depth → next.stride ≡ r.elements.region.stride
+    → GivesWordOf a b r.address.low r.elements.region mask low → GivesWordOf b c r.address.low next upper high → Makes a c s (IsElementAt r)
+wide_makes r s low high mask upper next a b c shape first second narrow many m u base depth stride g h =
+    let width : s.width ≡ r.elements.width = ap (λ (t : Shape). t.width) shape in
+    let most : r.elements.width ≤ 128 = r.elements.narrow in
+    let two : location_slots s ≡ low ∷ high ∷ [] = ap (λ b. if b then s.low ∷ s.high ∷ [] else s.low ∷ []) (ap (nat_lt 64) width ∙ lt-ltb 64 r.elements.width many) ∙ ap₂ (λ j k. j ∷ k ∷ []) first second in
+    let lt = g.within in
+    let up = h.within in
+    let more = h.grows.slots in
+    record {
+      grows = grows_then a b c g.grows h.grows;
+      stands = record {
+        within = record { low = omega (arith, first, lt, more); high = omega (arith, second, up) };
+        written = subst (AreKnown (written_in c)) (sym two) (two_known (written_in c) low high (h.grows.stays low g.written) h.written);
+      };
+      holds = λ words inputs F v sol wanted.
+          let e = r.elements in
+          let n = slice_index F r.address.low in
+          let x = element_word words (reaching r.address.low e.region) n in
+          let y = element_word words (reaching r.address.low next) n in
+          let small : x < 2 ^ 64 = small_word (nat_lt n e.region.depth) (slice_index words (e.region.base + n * e.region.stride)) (sol.plain (e.region.base + n * e.region.stride)) in
+          let parts = cut_wide e.kind e.width x y mask upper v many most small m u (wanted.0 ∙ wide_fitted r words F narrow wanted.1 next many base depth stride) in
+          record {
+            shape = parts.0 ∙ sym shape;
+            low = ap (slice_index F) first ∙ (g.holds words inputs F (h.grows.back words inputs F sol) ∙ parts.1);
+            high = λ _. ap (slice_index F) second ∙ (h.holds words inputs F sol ∙ parts.2);
+          };
+    }
 
 -- what they read and write
-pub element_segment : (r : Reading) (slot : ℕ) → r.elements.width ≤ 64 → (a b c : Draft) (k mask : ℕ) → r.address.width ≤ 64 → b ≡ with_instr (with_slots a 1) (at_slot a.slots (reaching r)) → k ≡ a.slots
-    → c ≡ with_instr (with_slots b 1) (at_slot b.slots (keeping k mask)) → slot ≡ b.slots → Segment a c (location_slots r.address) (if nat_lt 64 r.elements.width then slot ∷ slot ∷ [] else slot ∷ []) 4
-element_segment r slot few a b c k mask narrow first here next there =
-    let address : location_slots r.address ≡ r.address.low ∷ [] = ap (λ b. if b then r.address.low ∷ r.address.high ∷ [] else r.address.low ∷ []) (le-ltb 64 r.address.width narrow) in
-    let kept : (if nat_lt 64 r.elements.width then slot ∷ slot ∷ [] else slot ∷ []) ≡ slot ∷ [] = ap (λ b. if b then slot ∷ slot ∷ [] else slot ∷ []) (le-ltb 64 r.elements.width few) in
-    let one : Step a b (r.address.low ∷ []) (k ∷ []) 2 =
-    subst (λ x. Step a x (r.address.low ∷ []) (k ∷ []) 2) (sym first) (subst (λ j. Step a (with_instr (with_slots a 1) (at_slot a.slots (reaching r))) (r.address.low ∷ []) (j ∷ []) 2) (sym here) (loads_step a (reaching r) refl)) in
-    let other : Step b c (k ∷ []) (slot ∷ []) 2 =
-    subst (λ x. Step b x (k ∷ []) (slot ∷ []) 2) (sym next)
-    (subst (λ j. Step b (with_instr (with_slots b 1) (at_slot b.slots (keeping k mask))) (k ∷ []) (j ∷ []) 2) (sym there) (computed_step b (keeping k mask) (k ∷ []) refl (λ n h. h))) in
-    subst (λ xs. Segment a c xs (if nat_lt 64 r.elements.width then slot ∷ slot ∷ [] else slot ∷ []) 4) (sym address)
-    (subst (λ xs. Segment a c (r.address.low ∷ []) xs 4) (sym kept)
-    (step_then a b c (r.address.low ∷ []) (k ∷ []) (slot ∷ []) 2 2 4 one.segment other (omega arith) (omega arith)))
+pub word_adds : (a b c : Draft) (address k mask : ℕ) (r : Region) → b ≡ with_instr (with_slots a 1) (at_slot a.slots (reaching address r)) → k ≡ a.slots → c ≡ with_instr (with_slots b 1) (at_slot b.slots (keeping k mask))
+    → Adds a c (address ∷ [])
+word_adds a b c address k mask r first here next =
+    adds_then a b c (address ∷ []) (k ∷ []) (address ∷ [])
+    (adds_step a b (address ∷ []) (a.slots ∷ []) 2 (subst (λ x. Step a x (address ∷ []) (a.slots ∷ []) 2) (sym first) (loads_step a (reaching address r) refl)))
+    (adds_one b c (keeping k mask) (k ∷ []) refl (λ n h. h) next) (λ n lt h. h) (λ n lt h. let same = one_among n k h in absurd (omega (arith, same, here, lt)))
+
+address_slots : (x : Location) → x.width ≤ 64 → location_slots x ≡ x.low ∷ []
+address_slots x narrow = ap (λ b. if b then x.low ∷ x.high ∷ [] else x.low ∷ []) (le-ltb 64 x.width narrow)
+
+pub narrow_segment : (x : Location) (width slot : ℕ) (a b : Draft) → x.width ≤ 64 → width ≤ 64 → Adds a b (x.low ∷ []) → b.slots ≤ a.slots + 2 → a.slots ≤ slot → slot < b.slots
+    → Segment a b (location_slots x) (if nat_lt 64 width then slot ∷ slot ∷ [] else slot ∷ []) 4
+narrow_segment x width slot a b narrow few f more later within =
+    subst (λ xs. Segment a b xs (if nat_lt 64 width then slot ∷ slot ∷ [] else slot ∷ []) 4) (sym (address_slots x narrow))
+    (subst (λ xs. Segment a b (x.low ∷ []) xs 4) (sym (ap (λ b. if b then slot ∷ slot ∷ [] else slot ∷ []) (le-ltb 64 width few)))
+    (small_adds a b (x.low ∷ []) (slot ∷ []) 4 f (omega (arith, more)) (λ k h. let same = one_among k slot h in (omega (arith, same, later), omega (arith, same, within))) (omega arith)))
+
+pub wide_segment : (x : Location) (width low high : ℕ) (a b c : Draft) → x.width ≤ 64 → 64 < width → Adds a b (x.low ∷ []) → Adds b c (x.low ∷ []) → b.slots ≤ a.slots + 2 → c.slots ≤ b.slots + 2 → a.slots ≤ low → low < b.slots → b.slots ≤ high
+    → high < c.slots → Segment a c (location_slots x) (if nat_lt 64 width then low ∷ high ∷ [] else low ∷ []) 4
+wide_segment x width low high a b c narrow many f g more further later within after below =
+    let up = f.slots in
+    let upper = g.slots in
+    subst (λ xs. Segment a c xs (if nat_lt 64 width then low ∷ high ∷ [] else low ∷ []) 4) (sym (address_slots x narrow))
+    (subst (λ xs. Segment a c (x.low ∷ []) xs 4) (sym (ap (λ b. if b then low ∷ high ∷ [] else low ∷ []) (lt-ltb 64 width many)))
+    (small_adds a c (x.low ∷ []) (low ∷ high ∷ []) 4 (adds_then a b c (x.low ∷ []) (x.low ∷ []) (x.low ∷ []) f g (λ k lt h. h) (λ k lt h. h)) (omega (arith, more, further))
+    (λ k h. ⊎_elim (λ same. (omega (arith, same, later), omega (arith, same, within, upper))) (λ same. (omega (arith, same, after, up), omega (arith, same, below))) (two_among k low high h)) (omega arith)))
 
 -- the first slot of a location that stands is written
 pub low_written : (d : Draft) (s : Location) → Stands d s → written_in d s.low ≡ true

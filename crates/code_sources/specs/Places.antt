@@ -10,7 +10,7 @@ use Rattle.flat_code.specs.declared.instr.Wide.{Wide}
 use Rattle.flat_code.specs.Meaning.{location_values, place_by}
 use Rattle.flat_code.specs.Fine.{among, reads_of, writes_of}
 use Rattle.code_draft.specs.declared.draft.Draft.{Draft}
-use Rattle.code_draft.specs.Drafts.{Grows, Solved, written_in}
+use Rattle.code_draft.specs.Drafts.{IsDraft, Grows, Solved, written_in}
 use Rattle.code_draft.specs.Segments.{GoesOn}
 use Rattle.code_sources.specs.declared.places.Level.{Level}
 
@@ -60,6 +60,13 @@ pub record GivesLevel (old new : Draft) (l : Level) (rest slot : ℕ) : Type 0 w
   pub within : slot < new.slots
   pub written : written_in new slot ≡ true
   pub holds : (words : List ℕ) (inputs : List Value) (F : List ℕ) → Solved new words inputs F → IsCut F l.index → slice_index F slot ≡ level_word l rest F
+
+-- where the index and another slot are written
+abbrev pub GivesFrom : Level → ℕ → (Level → ℕ → List ℕ → ℕ) → Draft → Draft → ℕ → Type 0
+GivesFrom l other W old new slot = IsDraft old → written_in old l.index.low ≡ true → written_in old other ≡ true → Gives old new slot (W l other)
+
+abbrev pub AddsIndex : Level → ℕ → Draft → Draft → ℕ → Type 0
+AddsIndex l rest old new slot = IsDraft old → written_in old l.index.low ≡ true → written_in old rest ≡ true → GivesLevel old new l rest slot
 
 -- Code that goes on with a slot whose word tells the place that indices pick.
 pub record Finds (old new : Draft) (indices : List Location) (lengths : List ℕ) (all slot : ℕ) : Type 0 where

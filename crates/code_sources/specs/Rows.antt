@@ -1,13 +1,18 @@
 -- Leaves whose words stand in a row.
-use Rattle.std.specs.Prelude.{◌≡◌, ◌==◌, ℕ, ◌+◌, ◌*◌, ◌^◌, ◌<◌, ◌≤◌, nat_lt, if◌then◌else◌, List, length, slice_get, slice_index, Option, Some, None, pos, All}
+use Rattle.std.specs.Prelude.{◌≡◌, ◌==◌, ℕ, ◌+◌, ◌-◌, ◌*◌, ◌^◌, ◌<◌, ◌≤◌, nat_lt, if◌then◌else◌, List, length, slice_get, slice_index, Option, Some, None, pos, true, bit_and, All}
+use Rattle.bit_words.specs.declared.value.Kind.TheVariants.{Unsigned}
 use Rattle.bit_words.specs.declared.value.Value.{Value}
 use Rattle.prim_ops.specs.Values.{fitted}
 use Rattle.ground_net.specs.Words.{value_at}
 use Rattle.flat_code.specs.declared.instr.Op.TheVariants as op
 use Rattle.flat_code.specs.declared.instr.Instr.{Instr}
 use Rattle.flat_code.specs.declared.instr.Location.{Location}
-use Rattle.flat_code.specs.Meaning.{location_value, location_values, place_by}
-use Rattle.code_draft.specs.Drafts.{Wanted}
+use Rattle.flat_code.specs.declared.instr.Region.{Region}
+use Rattle.flat_code.specs.Fine.{InRegion, location_slots, slots_of}
+use Rattle.flat_code.specs.Meaning.{element_word, location_value, location_values, place_by}
+use Rattle.code_draft.specs.declared.draft.Draft.{Draft}
+use Rattle.code_draft.specs.Drafts.{IsDraft, Stands, Makes, Wanted, Grows, Solved, written_in}
+use Rattle.code_draft.specs.Segments.{Segment}
 use Rattle.code_sources.specs.declared.loading.Reading.{Reading}
 use Rattle.code_sources.specs.declared.sources.Kept.{Kept}
 use Rattle.code_sources.specs.declared.sources.Source.TheVariants as source
@@ -32,9 +37,8 @@ pub record StandInRow (S : Sources) (leaves : List ℕ) (e : Elements) : Type 0 
 abbrev pub slots_of_load : ℕ → ℕ
 slots_of_load indices = if indices == 1 then 4 else 7 * indices + 5
 
--- They do, words suffice for them and for the indices, and the code of a load takes at most two slots for each.
+-- They do, words suffice for the indices, and the code of a load takes at most two slots for each.
 pub record IsRow (S : Sources) (leaves : List ℕ) (indices : List Location) (e : Elements) : Type 0 where
-  pub elements_few : e.width ≤ 64
   pub indices_few : All (λ s. s.width ≤ 64) indices
   pub room : slots_of_load (length indices) ≤ 2 * length leaves
   pub row : StandInRow S leaves e
@@ -52,10 +56,31 @@ IsPicked e indices lengths words inputs F v = (v ≡ element_at_place e words (p
 abbrev pub IsElementAt : Reading → Wanted
 IsElementAt r words inputs F v = (v ≡ element_value r.elements words (location_value F r.address)) × (slice_index F r.address.low < 2 ^ r.address.width)
 
--- the load of the word of that element
-abbrev pub reaching : Reading → Instr
-reaching r = record { op = op.LoadAt; shift = 0; first = r.address.low; second = r.elements.region.base; third = r.elements.region.stride; target = 0; mask = r.elements.region.depth }
+-- the load of the word of a region whose number stands at a slot
+abbrev pub reaching : ℕ → Region → Instr
+reaching address r = record { op = op.LoadAt; shift = 0; first = address; second = r.base; third = r.stride; target = 0; mask = r.depth }
 
 -- the word of a slot, cut by a mask
 abbrev pub keeping : ℕ → ℕ → Instr
 keeping slot mask = record { op = op.Keep; shift = 0; first = slot; second = 0; third = 0; target = 0; mask = mask }
+
+-- Code that goes on with that word, cut by a mask, in a slot.
+pub record GivesWordOf (old new : Draft) (address : ℕ) (r : Region) (mask slot : ℕ) : Type 0 where
+  pub grows : Grows old new
+  pub within : slot < new.slots
+  pub written : written_in new slot ≡ true
+  pub holds : (words : List ℕ) (inputs : List Value) (F : List ℕ) → Solved new words inputs F → slice_index F slot ≡ bit_and (element_word words (reaching address r) (slice_index F address)) mask
+
+abbrev pub LoadsWord : ℕ → Region → ℕ → Draft → Draft → ℕ → Type 0
+LoadsWord address r mask old new slot = IsDraft old → written_in old address ≡ true → r.base + (r.depth - 1) * r.stride < old.words → GivesWordOf old new address r mask slot
+
+-- Code that goes on with an element at an address, and with the one that indices pick, where its words are there.
+abbrev pub MakesElement : Reading → Draft → Draft → Location → Type 0
+MakesElement r old new s = IsDraft old → Stands old r.address → r.address.kind ≡ Unsigned → InRegion old.words r.elements.width r.elements.region → Makes old new s (IsElementAt r)
+
+abbrev pub MakesPicked : Elements → List Location → List ℕ → Draft → Draft → Location → Type 0
+MakesPicked e indices lengths old new s = IsDraft old → All (Stands old) indices → InRegion old.words e.width e.region → Makes old new s (IsPicked e indices lengths)
+
+-- It reads the indices' slots, keeps those of the location, and takes no more than are told for so many indices.
+abbrev pub KeepsOf : List Location → Draft → Draft → Location → Type 0
+KeepsOf indices old new s = (n : ℕ) → slots_of_load (length indices) ≤ n → Segment old new (slots_of indices) (location_slots s) n

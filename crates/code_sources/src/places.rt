@@ -5,8 +5,8 @@ ghost use Rattle.flat_code.specs.declared.instr.Op.TheVariants.{Constant as Cons
 ghost use Rattle.ground_net.specs.Grounds.{element_count};
 ghost use Rattle.ground_net.specs.Shapes.{are_index_shapes};
 ghost use Rattle.flat_code.specs.Fine.{location_shapes, slots_of};
-ghost use Rattle.code_draft.specs.Drafts.{IsDraft, Stands, written_in};
-ghost use Rattle.code_sources.specs.Places.{on_slots, Gives, GivesLevel, Adds, Finds, offset_word, guarded_word};
+ghost use Rattle.code_draft.specs.Drafts.{IsDraft, Stands};
+ghost use Rattle.code_sources.specs.Places.{on_slots, GivesFrom, AddsIndex, Adds, Finds, offset_word, guarded_word};
 
 use code_draft::{Draft, computed};
 use flat_code::{Instr, Location, Op};
@@ -60,7 +60,7 @@ pub(crate) fn place_of(
 /// Adds an index to the place inside the element that it picks.
 fn pick(draft: &mut Draft, level: Level, rest: u32) -> Result<u32, AllocError>
     requires { level.index.width ≤ 64 }
-    ensures gives { IfOk result (λ k. IsDraft draft.old → written_in draft.old level.index.low ≡ true → written_in draft.old rest ≡ true → GivesLevel draft.old draft.new level rest k) }
+    ensures gives { IfOk result (AddsIndex level rest draft.old draft.new) }
     ensures adds { IfOk result (λ k. Adds draft.old draft.new (level.index.low ∷ rest ∷ [])) }
     ensures slots { OnOk result (draft.new.slots ≤ draft.old.slots + 7) }
     ensures later { IfOk result (λ k. draft.old.slots ≤ k) }
@@ -75,7 +75,7 @@ fn pick(draft: &mut Draft, level: Level, rest: u32) -> Result<u32, AllocError>
 
 /// The index times the elements inside, and the place inside.
 fn offset(draft: &mut Draft, level: Level, rest: u32) -> Result<u32, AllocError>
-    ensures gives { IfOk result (λ k. IsDraft draft.old → written_in draft.old level.index.low ≡ true → written_in draft.old rest ≡ true → Gives draft.old draft.new k (offset_word level rest)) }
+    ensures gives { IfOk result (GivesFrom level rest offset_word draft.old draft.new) }
     ensures adds { IfOk result (λ k. Adds draft.old draft.new (level.index.low ∷ rest ∷ [])) }
     ensures slots { OnOk result (draft.new.slots ≡ draft.old.slots + 3) }
     ensures later { IfOk result (λ k. draft.old.slots ≤ k) }
@@ -88,7 +88,7 @@ fn offset(draft: &mut Draft, level: Level, rest: u32) -> Result<u32, AllocError>
 
 /// The sum, where the index is below its length, and else the number of all elements.
 fn guarded(draft: &mut Draft, level: Level, sum: u32) -> Result<u32, AllocError>
-    ensures gives { IfOk result (λ k. IsDraft draft.old → written_in draft.old level.index.low ≡ true → written_in draft.old sum ≡ true → Gives draft.old draft.new k (guarded_word level sum)) }
+    ensures gives { IfOk result (GivesFrom level sum guarded_word draft.old draft.new) }
     ensures adds { IfOk result (λ k. Adds draft.old draft.new (level.index.low ∷ sum ∷ [])) }
     ensures slots { OnOk result (draft.new.slots ≡ draft.old.slots + 4) }
     ensures later { IfOk result (λ k. draft.old.slots ≤ k) }

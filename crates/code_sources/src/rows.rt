@@ -8,8 +8,8 @@ use flat_code::{Location, Region};
 use ground_net::Numbers;
 use std::alloc::{AllocError, Global};
 
-/// The row in which these leaves stand, where there are several and words suffice for each of them, for the indices that pick one, and for
-/// its place: the code of that takes no more slots than two for each leaf. Takes time in proportion to the leaves where they are words of
+/// The row in which these leaves stand, where there are several and words suffice for the indices that pick one and for its place: the
+/// code of that takes no more slots than two for each leaf. Takes time in proportion to the leaves where they are words of
 /// one kind and width.
 pub fn row_of(
     alloc: Global,
@@ -22,7 +22,7 @@ pub fn row_of(
     let Some(row) = guess(sources, numbers) else {
         return Ok(None);
     };
-    if row.width > 64 || !are_words(indices) {
+    if !are_words(indices) {
         return Ok(None);
     }
     let mut leaves = Vec::new(alloc);

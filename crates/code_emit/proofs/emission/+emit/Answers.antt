@@ -13,7 +13,7 @@ use Rattle.code_emit.proofs.Arms.{ok_both, location_shape_by, op_shaped, op_row,
 use Rattle.code_emit.proofs.Emitting.{none_emitted, const_emits, leaf_emits, op_emits, mux_emits, fit_emits, select_emits, load_emits, both_emitted, one_more_emitted}
 use Rattle.code_emit.specs.Spans.{SpansAll}
 use Rattle.code_emit.proofs.Spanning.{none_spans, fetched_spans, leaf_spans, load_spans, fit_spans, select_spans, both_span, one_more_spans}
-use Rattle.code_emit.proofs.Leaves.{no_leaf, leaf_stands, leaf-Const, leaf-Op, leaf-Mux, leaf-Select, leaf-Indexed, leaf-Load, leaf-Fit}
+use Rattle.code_emit.proofs.Leaves.{no_leaf, leaf_stands, leaf-Const, leaf-Op, leaf-Mux, leaf-Select, leaf-Load, leaf-Fit}
 use Rattle.code_emit.proofs.Nesting.{nested_shaped, nested_row, nested_emits}
 use Rattle.code_emit.proofs.Following.{mux_spans, op_spans, nested_spans}
 use Rattle.code_sources.specs.Rows.{IsRow}
@@ -518,7 +518,6 @@ emit-load_row-requires t c =
       words = reads.indices_few;
       counted = row_counted S g ns is ls c.requires e front row shapes reads;
       some = row_some S g ns is ls c.requires e front row shapes reads;
-      few = reads.elements_few;
     }
 
 pub emit-returns-in-Some-2-clause-shape : goal.emit-returns-in-Some-2-clause-shape

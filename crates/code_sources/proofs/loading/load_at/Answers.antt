@@ -1,35 +1,40 @@
-use Rattle.std.proofs.Common.{◌≡◌, ◌-◌, ◌^◌, refl, sym, subst, ap, ◌∙◌}
-use Rattle.code_draft.specs.Drafts.{Works, Computes, with_instr, with_slots, at_slot}
-use Rattle.code_sources.specs.Rows.{reaching, keeping}
-use Rattle.code_sources.proofs.Reaching.{Reaches, loads, element_makes, element_segment, last_within, low_written, keep_computes}
+use Rattle.std.proofs.Common.{rules, ◌≡◌, ◌+◌, ◌-◌, ◌*◌, ◌<◌, ◌≤◌, refl, sym, subst, arith}
+use Rattle.flat_code.specs.declared.instr.Region.{Region}
+use Rattle.code_sources.proofs.Reaching.{last_within, last_high, low_written, narrow_makes, wide_makes, narrow_segment, wide_segment}
 use Rattle.code_sources.proofs.loading.load_at.Goals as goal
+
+pub returns-then-width-le64-clause-makes : goal.returns-then-width-le64-clause-makes
+returns-then-width-le64-clause-makes c = λ is there kind within.
+    let r = c.args.reading in
+    let a = c.args.draft.now in
+    let g = c.in_ok-low.ensures.loads is (low_written a r.address there) (last_within a.words r.elements.width r.elements.region c.requires.some within) in
+    narrow_makes r _ c.in_ok-low.low c.low_mask.result a c.load_word.new.draft refl refl refl c.requires.address c.if-width-le64.true (c.low_mask.ensures.narrow c.if-width-le64.true) g
+
+pub returns-then-width-le64-clause-segment : goal.returns-then-width-le64-clause-segment
+returns-then-width-le64-clause-segment c =
+    let low = c.in_ok-low.ensures in
+    narrow_segment c.args.reading.address c.args.reading.elements.width c.in_ok-low.low c.args.draft.now c.load_word.new.draft c.requires.address c.if-width-le64.true low.adds low.slots low.later low.within
 
 pub returns-clause-makes : goal.returns-clause-makes
 returns-clause-makes c = λ is there kind within.
     let r = c.args.reading in
+    let e = r.elements in
     let a = c.args.draft.now in
-    let b = c.computed.new.draft in
-    let e = c.computed-2.new.draft in
-    let k = c.in_ok-word.word in
-    let slot = c.in_ok-slot.slot in
-    let mask = c.low_mask.result in
-    let code : b ≡ with_instr (with_slots a 1) (at_slot a.slots (reaching r)) = c.in_ok-word.ensures.code ∙ ap (λ i. with_instr (with_slots a 1) (at_slot a.slots i)) c.fetched.ensures in
-    let reaches : Reaches a (reaching r) = record { op = refl; address = low_written a r.address there; within = last_within a.words r.elements.width r.elements.region c.requires.some within } in
-    let first : Works a b (reaching r) k =
-    subst (λ d. Works a d (reaching r) k) (sym code) (subst (λ j. Works a (with_instr (with_slots a 1) (at_slot a.slots (reaching r))) (reaching r) j) (sym c.in_ok-word.ensures.place) (loads a (reaching r) is reaches)) in
-    let computes : Computes b (keeping k mask) = keep_computes b k mask first.written in
-    let next : Works b e (keeping k mask) slot = subst (λ i. Works b e i slot) c.cut.ensures (c.in_ok-slot.ensures.works first.grows.is (subst (Computes b) (sym c.cut.ensures) computes)) in
-    element_makes r _ slot refl refl refl c.requires.elements a b e k mask c.requires.address (c.low_mask.ensures.narrow c.requires.elements) first next
+    let b = c.load_word.new.draft in
+    let d = c.load_word-2.new.draft in
+    let many : 64 < e.width = omega (arith, c.if-width-le64.false) in
+    let most : e.width ≤ 128 = e.narrow in
+    let next : Region = record { base = c.in-Some.base; stride = e.region.stride; depth = e.region.depth } in
+    let base : next.base ≡ e.region.base + 1 = search (rules, c.checked_add.ensures, c.in-Some.is, c.in-Some.ensures) in
+    let low = low_written a r.address there in
+    let g = c.in_ok-low.ensures.loads is low (last_within a.words e.width e.region c.requires.some within) in
+    let room = subst (λ m. next.base + (next.depth - 1) * next.stride < m) (sym g.grows.words) (last_high a.words e.width e.region next c.requires.some many base refl refl within) in
+    let h = c.in_ok-high.ensures.loads g.grows.is (g.grows.stays r.address.low low) room in
+    wide_makes r _ c.in_ok-low.low c.in_ok-high.high c.low_mask.result c.low_mask-2.result next a b d refl refl refl c.requires.address many (c.low_mask.ensures.wide (omega (arith, many))) (c.low_mask-2.ensures.narrow (omega (arith, most))) base refl refl g h
 
 pub returns-clause-segment : goal.returns-clause-segment
 returns-clause-segment c =
-    let r = c.args.reading in
-    let a = c.args.draft.now in
-    let b = c.computed.new.draft in
-    let e = c.computed-2.new.draft in
-    let k = c.in_ok-word.word in
-    let slot = c.in_ok-slot.slot in
-    let mask = c.low_mask.result in
-    element_segment r slot c.requires.elements a b e k mask c.requires.address
-    (c.in_ok-word.ensures.code ∙ ap (λ i. with_instr (with_slots a 1) (at_slot a.slots i)) c.fetched.ensures) c.in_ok-word.ensures.place
-    (c.in_ok-slot.ensures.code ∙ ap (λ i. with_instr (with_slots b 1) (at_slot b.slots i)) c.cut.ensures) c.in_ok-slot.ensures.place
+    let low = c.in_ok-low.ensures in
+    let high = c.in_ok-high.ensures in
+    wide_segment c.args.reading.address c.args.reading.elements.width c.in_ok-low.low c.in_ok-high.high c.args.draft.now c.load_word.new.draft c.load_word-2.new.draft c.requires.address (omega (arith, c.if-width-le64.false)) low.adds high.adds
+    low.slots high.slots low.later low.within high.later high.within

@@ -1,9 +1,8 @@
-use Rattle.std.proofs.Common.{◌≡◌, ◌≤◌, ◌<◌, ◌^◌, [], ◌∷◌, All, length, refl, sym, subst, ap, ◌∙◌, arith}
-use Rattle.flat_code.specs.Fine.{InRegion, location_slots, slots_of}
-use Rattle.code_draft.specs.Drafts.{IsDraft, Stands}
+use Rattle.std.proofs.Common.{sym, subst, arith}
+use Rattle.flat_code.specs.Fine.{InRegion}
 use Rattle.code_sources.specs.declared.loading.Reading.{Reading}
 use Rattle.code_sources.specs.Places.{Finds}
-use Rattle.code_sources.proofs.Placing.{ok_so, ok_both, on_both}
+use Rattle.code_sources.proofs.Placing.{ok_so, on_both}
 use Rattle.code_sources.proofs.Picking.{one_item, one_makes, one_segment, place_stands, several_make, several_segment}
 use Rattle.code_sources.proofs.loading.load_row.Goals as goal
 

@@ -1,4 +1,4 @@
-use Rattle.std.proofs.Common.{◌≡◌, ◌^◌, ◌-◌, ◌<◌, ◌≤◌, true, [], ◌∷◌, nat_lt, if◌then◌else◌, refl, sym, ap, arith, slice_index}
+use Rattle.std.proofs.Common.{◌^◌, ◌-◌, [], ◌∷◌, nat_lt, if◌then◌else◌, refl, ap, arith, slice_index}
 use Rattle.flat_code.specs.declared.instr.Op.TheVariants as op
 use Rattle.code_draft.specs.Drafts.{Works}
 use Rattle.code_draft.proofs.Segmenting.{none_among}

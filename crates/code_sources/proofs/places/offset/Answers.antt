@@ -1,5 +1,4 @@
-use Rattle.std.proofs.Common.{◌≡◌, ◌*◌, ◌+◌, ◌%◌, ◌^◌, ◌-◌, ◌<◌, ◌≤◌, true, [], ◌∷◌, refl, sym, arith, slice_index}
-use Rattle.flat_code.specs.Fine.{among}
+use Rattle.std.proofs.Common.{◌*◌, ◌%◌, ◌^◌, ◌-◌, [], ◌∷◌, refl, arith, slice_index}
 use Rattle.flat_code.specs.declared.instr.Op.TheVariants as op
 use Rattle.code_draft.specs.Drafts.{Works}
 use Rattle.code_sources.specs.Places.{on_slots, offset_word, Adds, Gives}

@@ -1,6 +1,5 @@
-use Rattle.std.proofs.Common.{◌≡◌, ◌^◌, ◌-◌, ◌<◌, ◌≤◌, true, [], ◌∷◌, refl, sym, ap, arith, slice_index}
-use Rattle.code_sources.specs.Places.{Adds, Gives}
-use Rattle.code_sources.proofs.Placing.{ok_so, ok_both, level_narrow, level_guarded, one_shifted, adds_then, out_first}
+use Rattle.std.proofs.Common.{[], ◌∷◌, arith}
+use Rattle.code_sources.proofs.Placing.{ok_so, level_narrow, level_guarded, one_shifted, adds_then, out_first}
 use Rattle.code_sources.proofs.places.pick.Goals as goal
 
 pub returns-then-level-clause-gives : goal.returns-then-level-clause-gives

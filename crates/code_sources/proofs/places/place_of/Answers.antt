@@ -1,12 +1,12 @@
-use Rattle.std.proofs.Common.{◌≡◌, ◌+◌, ◌-◌, ◌*◌, ◌^◌, ◌<◌, ◌≤◌, ℕ, true, suc, zero, [], ◌∷◌, All, length, drop, get_or, drop_of_length-le, refl, sym, subst, ap, ◌∙◌, arith, ⊎_elim}
+use Rattle.std.proofs.Common.{◌≡◌, ◌-◌, ◌*◌, ◌<◌, ◌≤◌, ℕ, suc, [], ◌∷◌, length, drop, get_or, drop_of_length-le, refl, sym, subst, ap, ◌∙◌, arith, ⊎_elim}
 use Rattle.ground_net.specs.Grounds.{element_count}
 use Rattle.flat_code.specs.declared.instr.Op.TheVariants as op
 use Rattle.flat_code.specs.declared.instr.Location.{Location}
 use Rattle.flat_code.specs.Fine.{among, slots_of}
-use Rattle.code_draft.specs.Drafts.{IsDraft, Stands, Works}
+use Rattle.code_draft.specs.Drafts.{Stands, Works}
 use Rattle.code_draft.proofs.Growing.{two_among}
 use Rattle.code_draft.proofs.Segmenting.{none_among}
-use Rattle.code_sources.specs.Places.{on_slots, Adds, Finds}
+use Rattle.code_sources.specs.Places.{on_slots, Finds}
 use Rattle.code_sources.proofs.Reaching.{low_written}
 use Rattle.code_sources.proofs.Placing.{works_as, code_as, gives_first, constant_computes, adds_one, adds_then, finds_none, finds_more, shapes_long, level_at, slot_among, length_within}
 use Rattle.code_sources.proofs.places.place_of.Goals as goal

@@ -1,5 +1,4 @@
-use Rattle.std.proofs.Common.{rules, ◌≡◌, ap, ap₂, sym, ◌∙◌, arith}
-use Rattle.std.proofs.lemmas.Grind.{common_steps}
+use Rattle.std.proofs.Common.{rules, ap₂, sym, ◌∙◌}
 use Rattle.bit_words.specs.contracts.value.Kind.{the_type}
 use Rattle.ground_net.specs.Shapes.{shaped}
 use Rattle.code_sources.proofs.Standing.{not_other, same_number}

@@ -1,4 +1,4 @@
-use Rattle.std.proofs.Common.{◌≡◌, ◌+◌, ◌*◌, ◌<◌, suc, arith, get_or, refl, subst, ap₂}
+use Rattle.std.proofs.Common.{◌+◌, ◌*◌, arith, get_or, refl, subst, ap₂}
 use Rattle.code_sources.specs.Rows.{IsWordAt}
 use Rattle.code_sources.proofs.Standing.{all_stand, stand_more}
 use Rattle.code_sources.proofs.rows.stand_in_row.Goals as goal
