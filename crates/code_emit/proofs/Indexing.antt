@@ -1,28 +1,25 @@
 -- Leaves that indices pick.
-use Rattle.std.proofs.Common.{◌≡◌, ◌==◌, ◌&&◌, ℕ, zero, suc, get_or, ◌<◌, ◌+◌, ◌*◌, ◌≤◌, max, Bool, true, false, true≢false, List, [], ◌∷◌, ◌++◌, map, length, take, drop, Option, Some, None, option_and_then, refl, sym, subst, ap, ap₂, ◌∙◌, arith, if◌then◌else◌, All}
-use Rattle.std.specs.Prelude.{IsSome, sum, sum_by}
+use Rattle.std.proofs.Common.{◌≡◌, ◌==◌, ◌&&◌, ℕ, zero, suc, get_or, ◌<◌, true, true≢false, List, [], ◌∷◌, ◌++◌, map, length, take, drop, Option, Some, None, option_and_then, refl, sym, subst, ap, ap₂, ◌∙◌, arith, if◌then◌else◌, All}
+use Rattle.std.specs.Prelude.{IsSome, sum_by}
 use Rattle.std.proofs.lemmas.List.{map-append, length-map}
 use Rattle.std.proofs.lemmas.Grind.{flat_map-append}
 use Rattle.std.proofs.lemmas.List.Concat.{flat_map-cons}
 use Rattle.std.proofs.lemmas.List.Sums.{sum-map, sum_by-append, sum_by-cons}
-use Rattle.bit_words.specs.declared.value.Value.{Value}
-use Rattle.bit_words.specs.Values.{integer_of}
 use Rattle.ground_net.specs.declared.ground.Ground.{Ground}
 use Rattle.ground_net.specs.declared.ground.Ground.TheVariants.{Leaf, Indexed}
 use Rattle.ground_net.specs.Grounds.{Instant, value, mentions, element_count, place, indexed}
-use Rattle.ground_net.proofs.Layers.{maps, values, all_mentions, value-Leaf, value-Indexed, mentions-Leaf, mentions-Indexed}
-use Rattle.ground_net.specs.Shapes.{Shape, shaped, Table, shape, all_of, are_index_shapes, shape_of_items, shape_of_indexed, is_unsigned}
+use Rattle.ground_net.proofs.Layers.{values, all_mentions, value-Leaf, value-Indexed, mentions-Leaf, mentions-Indexed}
+use Rattle.ground_net.specs.Shapes.{Shape, Table, shape, all_of, are_index_shapes, shape_of_items, shape_of_indexed, is_unsigned}
 use Rattle.ground_net.proofs.Shaping.{and_then, both_true, shape-Leaf}
-use Rattle.flat_code.specs.declared.instr.Form.{Form}
 use Rattle.flat_code.specs.declared.instr.Form.TheVariants as form
 use Rattle.flat_code.specs.declared.instr.Location.{Location}
-use Rattle.flat_code.specs.Meaning.{location_shape, location_values, place_by, picked_among, form_value}
+use Rattle.flat_code.specs.Meaning.{location_shape, location_values, place_by, picked_among}
 use Rattle.flat_code.specs.Fine.{location_shapes, location_slots, slots_of, form_shape, shape_of_pick, InRegion, region_of}
 use Rattle.code_draft.specs.declared.draft.Draft.{Draft}
 use Rattle.code_draft.specs.Drafts.{IsDraft, Stands, Makes, IsForm}
 use Rattle.code_draft.specs.Segments.{Step}
-use Rattle.code_emit.specs.declared.sources.Sources.{Sources}
-use Rattle.code_emit.specs.Emits.{as_leaves, AreShaped, shapes_in, sources_table, Sees, Emits, EmitsAll}
+use Rattle.code_sources.specs.declared.sources.Sources.{Sources}
+use Rattle.code_emit.specs.Emits.{as_leaves, AreShaped, shapes_in, sources_table, Emits, EmitsAll}
 use Rattle.code_emit.specs.Counts.{tips}
 use Rattle.code_emit.specs.Spans.{Spans, SpansAll}
 use Rattle.code_emit.proofs.Counting.{tips-Leaf, tips-Indexed}

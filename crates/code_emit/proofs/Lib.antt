@@ -21,3 +21,4 @@ pub mod Nesting
 pub mod Choosing
 pub mod Following
 pub mod Indexing
+pub mod Loading

@@ -1,45 +1,25 @@
 -- Where the values of leaves and of memories are found, and code that computes the value of an expression.
-use Rattle.std.specs.Prelude.{◌≡◌, ℕ, ◌+◌, ◌*◌, ◌<◌, List, map, slice_get, Option, Some, option_map, option_and_then, nat_lt, if◌then◌else◌, pos, All, IsSome}
+use Rattle.std.specs.Prelude.{◌≡◌, ℕ, ◌+◌, ◌<◌, List, map, Option, Some, option_map, All, IsSome}
 use Rattle.bit_words.specs.declared.value.Kind.TheVariants.{Unsigned}
 use Rattle.bit_words.specs.declared.value.Value.{Value}
-use Rattle.prim_ops.specs.Values.{fitted}
 use Rattle.ground_net.specs.declared.ground.Ground.{Ground}
 use Rattle.ground_net.specs.declared.ground.Ground.TheVariants.{Leaf}
 use Rattle.ground_net.specs.Grounds.{Instant, value}
-use Rattle.ground_net.specs.Shapes.{Shape, shaped, shape_of_value, Table, shape}
+use Rattle.ground_net.specs.Shapes.{Shape, shape_of_value, Table, shape}
 use Rattle.ground_net.specs.Words.{value_at}
 use Rattle.flat_code.specs.declared.instr.Location.{Location}
-use Rattle.flat_code.specs.Meaning.{location_shape, location_values}
+use Rattle.flat_code.specs.Meaning.{location_values}
 use Rattle.flat_code.specs.Fine.{InRegion, further_words}
 use Rattle.code_draft.specs.declared.draft.Draft.{Draft}
 use Rattle.code_draft.specs.Drafts.{IsDraft, Solved, Grows, Stands, Makes, Wanted, Holds, input_value}
 use Rattle.code_emit.specs.Ways.{Cut}
-use Rattle.code_emit.specs.declared.sources.Kept.{Kept}
-use Rattle.code_emit.specs.declared.sources.Source.{Source}
-use Rattle.code_emit.specs.declared.sources.Source.TheVariants as source
-use Rattle.code_emit.specs.declared.sources.Elements.{Elements}
-use Rattle.code_emit.specs.declared.sources.Sources.{Sources}
-
--- the source of a leaf, and of a leaf of the elements of a memory
-abbrev pub leaf_source : Sources → ℕ → Option Source
-leaf_source S x = option_and_then (λ o. o) (slice_get S.leaves x)
-
-abbrev pub element_source : Sources → ℕ → ℕ → Option Elements
-element_source S m k = option_and_then (λ es. slice_get es k) (slice_get S.memories m)
+use Rattle.code_sources.specs.declared.sources.Source.{Source}
+use Rattle.code_sources.specs.declared.sources.Source.TheVariants as source
+use Rattle.code_sources.specs.declared.sources.Elements.{Elements}
+use Rattle.code_sources.specs.declared.sources.Sources.{Sources}
+pub use Rattle.code_sources.specs.Sources.{leaf_source, element_source, kept_shape, source_shape, elements_shape, element_value}
 
 -- Their kinds and widths.
-abbrev pub kept_shape : Kept → Shape
-kept_shape k = shaped k.kind k.width
-
-abbrev pub source_shape : Source → Shape
-source_shape (source.Word k) = kept_shape k
-source_shape (source.Input k) = kept_shape k
-source_shape (source.Frame s) = location_shape s
-source_shape (source.Constant c) = shape_of_value c
-
-abbrev pub elements_shape : Elements → Shape
-elements_shape e = shaped e.kind e.width
-
 abbrev pub sources_table : Sources → Table
 sources_table S = record { leaf = λ x. option_map source_shape (leaf_source S x); element = λ m k. option_map elements_shape (element_source S m k) }
 
@@ -49,11 +29,6 @@ IsOf (source.Word k) words inputs F v = v ≡ value_at (kept_shape k) words k.nu
 IsOf (source.Input k) words inputs F v = v ≡ input_value (kept_shape k) inputs k.number
 IsOf (source.Frame s) words inputs F v = Holds F s v
 IsOf (source.Constant c) words inputs F v = v ≡ c
-
--- the leaf of the element at an address, 0 past the depth
-abbrev pub element_value : Elements → List ℕ → Value → Value
-element_value e words address =
-    if nat_lt address.bits e.region.depth then value_at (elements_shape e) words (e.region.base + address.bits * e.region.stride) else fitted e.kind e.width (pos 0)
 
 -- An instant shows what the sources show.
 pub record Sees (S : Sources) (words : List ℕ) (inputs : List Value) (F : List ℕ) (instant : Instant) : Type 0 where

@@ -9,16 +9,16 @@ ghost use Rattle.code_draft.specs.Segments.{Step};
 ghost use Rattle.ground_net.specs.declared.ground.Ground.TheVariants.{Leaf as Leaf_of};
 ghost use Rattle.code_emit.specs.Emits.{as_leaves, sources_table, source_shape, Emits, EmitsAll, AreShaped, shapes_in, Fits, IsOf, leaf_source, element_source};
 ghost use Rattle.code_emit.specs.Spans.{Spans, SpansAll, StandsThere, source_slots};
-ghost use Rattle.code_emit.specs.declared.sources.Source.TheVariants.{Frame as A_frame};
+ghost use Rattle.code_sources.specs.declared.sources.Source.TheVariants.{Frame as A_frame};
 ghost use Rattle.flat_code.specs.declared.instr.Location.{Location as TheLocation};
 
 use crate::chains::emit_choice;
 use crate::forms::{items_measure, joined};
 use crate::nested::{Row, emit_nested, inner_of};
-use crate::sources::{Elements, Source, Sources};
 use crate::values::{emit_fit, emit_operation};
 use bit_words::List;
 use code_draft::{Draft, constant, input, load, wide_value};
+use code_sources::{Elements, Source, Sources, load_row, row_of};
 use flat_code::{Form, Location};
 use ground_net::{Ground, Numbers};
 use std::alloc::{AllocError, Global};
@@ -67,6 +67,9 @@ pub fn emit(
         }
         Ground::Indexed(numbers, indices, lengths) => {
             let front = emit_all(alloc, draft, sources, indices.as_slice())?;
+            if let Some(row) = row_of(alloc, sources, numbers, front.as_slice())? {
+                return load_row(draft, front.as_slice(), lengths.as_slice(), row);
+            }
             let back = emit_leaves(alloc, draft, sources, numbers)?;
             let measure = items_measure(back.as_slice());
             let locations = joined(front, back.as_slice())?;

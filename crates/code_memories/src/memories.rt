@@ -13,7 +13,7 @@ use crate::captures::publish_captures;
 use crate::places::MemoryAt;
 use crate::writes::publish_writes;
 use code_draft::Draft;
-use code_emit::Sources;
+use code_sources::Sources;
 use ground_net::Net;
 use std::alloc::{AllocError, Global};
 

@@ -4,7 +4,7 @@ use crate::captured::CapturedRead;
 use crate::words::FirstWords;
 use bit_words::List;
 use code_draft::Draft;
-use code_emit::Sources;
+use code_sources::Sources;
 use flat_code::{Location, Span};
 use ground_net::Net;
 

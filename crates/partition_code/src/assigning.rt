@@ -6,7 +6,8 @@ ghost use Rattle.partition_code.specs.Sequences.{InTurn, Turned, Assigns, StandE
 ghost use Rattle.partition_code.specs.Segmented.{AreSegments};
 
 use code_draft::Draft;
-use code_emit::{Source, Sources, emit};
+use code_emit::emit;
+use code_sources::{Source, Sources};
 use ground_net::Ground;
 use std::alloc::{AllocError, Global};
 

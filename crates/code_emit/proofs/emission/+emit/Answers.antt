@@ -13,9 +13,11 @@ use Rattle.code_emit.proofs.Arms.{ok_both, location_shape_by, op_shaped, op_row,
 use Rattle.code_emit.proofs.Emitting.{none_emitted, const_emits, leaf_emits, op_emits, mux_emits, fit_emits, select_emits, load_emits, both_emitted, one_more_emitted}
 use Rattle.code_emit.specs.Spans.{SpansAll}
 use Rattle.code_emit.proofs.Spanning.{none_spans, fetched_spans, leaf_spans, load_spans, fit_spans, select_spans, both_span, one_more_spans}
-use Rattle.code_emit.proofs.Leaves.{no_leaf, leaf_stands, leaf-Const, leaf-Op, leaf-Mux, leaf-Select, leaf-Indexed, leaf-Load, leaf-Fit}
+use Rattle.code_emit.proofs.Leaves.{no_leaf, leaf_stands, leaf-Const, leaf-Op, leaf-Mux, leaf-Select, leaf-Load, leaf-Fit}
 use Rattle.code_emit.proofs.Nesting.{nested_shaped, nested_row, nested_emits}
 use Rattle.code_emit.proofs.Following.{mux_spans, op_spans, nested_spans}
+use Rattle.code_sources.specs.Rows.{IsRow}
+use Rattle.code_emit.proofs.Loading.{found, row_indices, row_counted, row_some, row_shape, row_emits, row_spans}
 use Rattle.code_emit.proofs.emission.+emit.Goals as goal
 
 pub emit-emit_all-requires : goal.emit-emit_all-requires
@@ -425,7 +427,7 @@ emit-emit_leaves-requires t c = leaves_shaped (sources_table c.args.sources.now)
 
 pub emit-items_measure-measure-requires-in-Indexed : goal.emit-items_measure-measure-requires-in-Indexed
 emit-items_measure-measure-requires-in-Indexed t c =
-    subst (λ ss. IsSome (shape_of_items (location_shapes ss))) (sym c.as_slice-in-Indexed-2.ensures)
+    subst (λ ss. IsSome (shape_of_items (location_shapes ss))) (sym c.as_slice-in-Indexed-3.ensures)
     (subst (λ o. IsSome o) (sym (leaves_row (sources_table c.args.sources.now) c.args.ground.now c.requires c.in-Indexed.numbers c.in-Indexed.indices c.in-Indexed.lengths c.in-Indexed.is c.in_ok-back-in-Indexed.back
     c.in_ok-back-in-Indexed.ensures.shapes)) c.requires)
 
@@ -444,9 +446,9 @@ emit-returns-in_ok-lengths-in-Indexed-clause-shape t c =
     let b = c.emit_leaves.new.draft in
     let kind = c.items_measure-measure-in-Indexed.result.kind in
     let width = c.items_measure-measure-in-Indexed.result.width in
-    let e : g ≡ Indexed ns is ls = c.in-Indexed.is ∙ ap₂ (λ os qs. Indexed ns os qs) (sym c.as_slice-in-Indexed.ensures) (sym (c.in_ok-lengths-in-Indexed.ensures ∙ c.as_slice-in-Indexed-4.ensures)) in
-    let same : ss ≡ front ++ back = c.in_ok-locations-in-Indexed.ensures ∙ ap (λ xs. front ++ xs) c.as_slice-in-Indexed-3.ensures in
-    let row : shape_of_items (location_shapes back) ≡ Some (shaped kind width) = ap (λ xs. shape_of_items (location_shapes xs)) (sym c.as_slice-in-Indexed-2.ensures) ∙ c.items_measure-measure-in-Indexed.ensures in
+    let e : g ≡ Indexed ns is ls = c.in-Indexed.is ∙ ap₂ (λ os qs. Indexed ns os qs) (sym c.as_slice-in-Indexed.ensures) (sym (c.in_ok-lengths-in-Indexed.ensures ∙ c.as_slice-in-Indexed-5.ensures)) in
+    let same : ss ≡ front ++ back = c.in_ok-locations-in-Indexed.ensures ∙ ap (λ xs. front ++ xs) c.as_slice-in-Indexed-4.ensures in
+    let row : shape_of_items (location_shapes back) ≡ Some (shaped kind width) = ap (λ xs. shape_of_items (location_shapes xs)) (sym c.as_slice-in-Indexed-3.ensures) ∙ c.items_measure-measure-in-Indexed.ensures in
     let at : shape g table ≡ Some (shaped kind width) = sym (leaves_row table g c.requires ns is ls e back c.in_ok-back-in-Indexed.ensures.shapes) ∙ row in
     ok_so c.wide_value-in-Indexed.result (ok_both _ _ c.wide_value-in-Indexed.result c.wide_value-in-Indexed.ensures.shape c.wide_value-in-Indexed.ensures.width) (λ s h. at ∙ ap Some (sym (location_shape_by s kind width h.0 h.1)))
 
@@ -465,9 +467,9 @@ emit-returns-in_ok-lengths-in-Indexed-clause-emits t c =
     let b = c.emit_leaves.new.draft in
     let kind = c.items_measure-measure-in-Indexed.result.kind in
     let width = c.items_measure-measure-in-Indexed.result.width in
-    let e : g ≡ Indexed ns is ls = c.in-Indexed.is ∙ ap₂ (λ os qs. Indexed ns os qs) (sym c.as_slice-in-Indexed.ensures) (sym (c.in_ok-lengths-in-Indexed.ensures ∙ c.as_slice-in-Indexed-4.ensures)) in
-    let same : ss ≡ front ++ back = c.in_ok-locations-in-Indexed.ensures ∙ ap (λ xs. front ++ xs) c.as_slice-in-Indexed-3.ensures in
-    let row : shape_of_items (location_shapes back) ≡ Some (shaped kind width) = ap (λ xs. shape_of_items (location_shapes xs)) (sym c.as_slice-in-Indexed-2.ensures) ∙ c.items_measure-measure-in-Indexed.ensures in
+    let e : g ≡ Indexed ns is ls = c.in-Indexed.is ∙ ap₂ (λ os qs. Indexed ns os qs) (sym c.as_slice-in-Indexed.ensures) (sym (c.in_ok-lengths-in-Indexed.ensures ∙ c.as_slice-in-Indexed-5.ensures)) in
+    let same : ss ≡ front ++ back = c.in_ok-locations-in-Indexed.ensures ∙ ap (λ xs. front ++ xs) c.as_slice-in-Indexed-4.ensures in
+    let row : shape_of_items (location_shapes back) ≡ Some (shaped kind width) = ap (λ xs. shape_of_items (location_shapes xs)) (sym c.as_slice-in-Indexed-3.ensures) ∙ c.items_measure-measure-in-Indexed.ensures in
     let at : shape g table ≡ Some (shaped kind width) = sym (leaves_row table g c.requires ns is ls e back c.in_ok-back-in-Indexed.ensures.shapes) ∙ row in
     let both = both_emitted S is (as_leaves ns) d c.emit_all-in-Indexed.new.draft b front back c.in_ok-front-in-Indexed.ensures.emits c.in_ok-back-in-Indexed.ensures.emits in
     let whole : shape_of_pick ls (location_shapes ss) ≡ Some (shaped kind width) =
@@ -491,10 +493,73 @@ emit-returns-in_ok-lengths-in-Indexed-clause-spans t c =
     let b = c.emit_leaves.new.draft in
     let kind = c.items_measure-measure-in-Indexed.result.kind in
     let width = c.items_measure-measure-in-Indexed.result.width in
-    let e : g ≡ Indexed ns is ls = c.in-Indexed.is ∙ ap₂ (λ os qs. Indexed ns os qs) (sym c.as_slice-in-Indexed.ensures) (sym (c.in_ok-lengths-in-Indexed.ensures ∙ c.as_slice-in-Indexed-4.ensures)) in
-    let same : ss ≡ front ++ back = c.in_ok-locations-in-Indexed.ensures ∙ ap (λ xs. front ++ xs) c.as_slice-in-Indexed-3.ensures in
-    let row : shape_of_items (location_shapes back) ≡ Some (shaped kind width) = ap (λ xs. shape_of_items (location_shapes xs)) (sym c.as_slice-in-Indexed-2.ensures) ∙ c.items_measure-measure-in-Indexed.ensures in
+    let e : g ≡ Indexed ns is ls = c.in-Indexed.is ∙ ap₂ (λ os qs. Indexed ns os qs) (sym c.as_slice-in-Indexed.ensures) (sym (c.in_ok-lengths-in-Indexed.ensures ∙ c.as_slice-in-Indexed-5.ensures)) in
+    let same : ss ≡ front ++ back = c.in_ok-locations-in-Indexed.ensures ∙ ap (λ xs. front ++ xs) c.as_slice-in-Indexed-4.ensures in
+    let row : shape_of_items (location_shapes back) ≡ Some (shaped kind width) = ap (λ xs. shape_of_items (location_shapes xs)) (sym c.as_slice-in-Indexed-3.ensures) ∙ c.items_measure-measure-in-Indexed.ensures in
     let at : shape g table ≡ Some (shaped kind width) = sym (leaves_row table g c.requires ns is ls e back c.in_ok-back-in-Indexed.ensures.shapes) ∙ row in
     let both = both_span S is (as_leaves ns) d c.emit_all-in-Indexed.new.draft b front back c.in_ok-front-in-Indexed.ensures.spans c.in_ok-back-in-Indexed.ensures.spans in
     ok_so c.wide_value-in-Indexed.result c.wide_value-in-Indexed.ensures.step (λ s st.
     indexed_spans S g ns is ls d b c.wide_value-in-Indexed.new.draft ss s e (subst (SpansAll S (is ++ as_leaves ns) d b) (sym same) both) st)
+
+pub emit-load_row-requires : goal.emit-load_row-requires
+emit-load_row-requires t c =
+    let S = c.args.sources.now in
+    let g = c.args.ground.now in
+    let ns = c.in-Indexed.numbers in
+    let is = c.as_slice-in-Indexed.result.now in
+    let ls = c.as_slice-in-Some-2-2.result.now in
+    let front = c.as_slice-in-Some-2.result.now in
+    let row = c.in-Some-2.row in
+    let e : g ≡ Indexed ns is ls = c.in-Indexed.is ∙ ap₂ (λ os qs. Indexed ns os qs) (sym c.as_slice-in-Indexed.ensures) (sym c.as_slice-in-Some-2-2.ensures) in
+    let reads : IsRow S ns front row = subst (λ xs. IsRow S ns xs row) (c.as_slice-in-Indexed-2.ensures ∙ sym c.as_slice-in-Some-2.ensures) (found _ c.in_ok-row-in-Indexed.field-0 row c.in-Some-2.is c.in_ok-row-in-Indexed.ensures) in
+    let shapes = subst (λ xs. all_of (shapes_in (sources_table S) is) ≡ Some (location_shapes xs)) (sym c.as_slice-in-Some-2.ensures) c.in_ok-front-in-Indexed.ensures.shapes in
+    record {
+      shape = row_indices S g ns is ls c.requires e front row shapes reads;
+      words = reads.indices_few;
+      counted = row_counted S g ns is ls c.requires e front row shapes reads;
+      some = row_some S g ns is ls c.requires e front row shapes reads;
+    }
+
+pub emit-returns-in-Some-2-clause-shape : goal.emit-returns-in-Some-2-clause-shape
+emit-returns-in-Some-2-clause-shape t c =
+    let S = c.args.sources.now in
+    let g = c.args.ground.now in
+    let ns = c.in-Indexed.numbers in
+    let is = c.as_slice-in-Indexed.result.now in
+    let ls = c.as_slice-in-Some-2-2.result.now in
+    let front = c.as_slice-in-Some-2.result.now in
+    let row = c.in-Some-2.row in
+    let e : g ≡ Indexed ns is ls = c.in-Indexed.is ∙ ap₂ (λ os qs. Indexed ns os qs) (sym c.as_slice-in-Indexed.ensures) (sym c.as_slice-in-Some-2-2.ensures) in
+    let reads : IsRow S ns front row = subst (λ xs. IsRow S ns xs row) (c.as_slice-in-Indexed-2.ensures ∙ sym c.as_slice-in-Some-2.ensures) (found _ c.in_ok-row-in-Indexed.field-0 row c.in-Some-2.is c.in_ok-row-in-Indexed.ensures) in
+    let shapes = subst (λ xs. all_of (shapes_in (sources_table S) is) ≡ Some (location_shapes xs)) (sym c.as_slice-in-Some-2.ensures) c.in_ok-front-in-Indexed.ensures.shapes in
+    ok_so c.load_row.result c.load_row.ensures.shape (λ s at. row_shape S g ns is ls c.requires e front row shapes reads ∙ ap Some (sym at))
+
+pub emit-returns-in-Some-2-clause-emits : goal.emit-returns-in-Some-2-clause-emits
+emit-returns-in-Some-2-clause-emits t c =
+    let S = c.args.sources.now in
+    let g = c.args.ground.now in
+    let ns = c.in-Indexed.numbers in
+    let is = c.as_slice-in-Indexed.result.now in
+    let ls = c.as_slice-in-Some-2-2.result.now in
+    let front = c.as_slice-in-Some-2.result.now in
+    let row = c.in-Some-2.row in
+    let e : g ≡ Indexed ns is ls = c.in-Indexed.is ∙ ap₂ (λ os qs. Indexed ns os qs) (sym c.as_slice-in-Indexed.ensures) (sym c.as_slice-in-Some-2-2.ensures) in
+    let reads : IsRow S ns front row = subst (λ xs. IsRow S ns xs row) (c.as_slice-in-Indexed-2.ensures ∙ sym c.as_slice-in-Some-2.ensures) (found _ c.in_ok-row-in-Indexed.field-0 row c.in-Some-2.is c.in_ok-row-in-Indexed.ensures) in
+    let shapes = subst (λ xs. all_of (shapes_in (sources_table S) is) ≡ Some (location_shapes xs)) (sym c.as_slice-in-Some-2.ensures) c.in_ok-front-in-Indexed.ensures.shapes in
+    let all = subst (EmitsAll S is c.args.draft.now c.emit_all-in-Indexed.new.draft) (sym c.as_slice-in-Some-2.ensures) c.in_ok-front-in-Indexed.ensures.emits in
+    ok_so c.load_row.result c.load_row.ensures.makes (λ s m. row_emits S g ns is ls c.requires e front row shapes reads c.args.draft.now c.emit_all-in-Indexed.new.draft c.load_row.new.draft s all m)
+
+pub emit-returns-in-Some-2-clause-spans : goal.emit-returns-in-Some-2-clause-spans
+emit-returns-in-Some-2-clause-spans t c =
+    let S = c.args.sources.now in
+    let g = c.args.ground.now in
+    let ns = c.in-Indexed.numbers in
+    let is = c.as_slice-in-Indexed.result.now in
+    let ls = c.as_slice-in-Some-2-2.result.now in
+    let front = c.as_slice-in-Some-2.result.now in
+    let row = c.in-Some-2.row in
+    let e : g ≡ Indexed ns is ls = c.in-Indexed.is ∙ ap₂ (λ os qs. Indexed ns os qs) (sym c.as_slice-in-Indexed.ensures) (sym c.as_slice-in-Some-2-2.ensures) in
+    let reads : IsRow S ns front row = subst (λ xs. IsRow S ns xs row) (c.as_slice-in-Indexed-2.ensures ∙ sym c.as_slice-in-Some-2.ensures) (found _ c.in_ok-row-in-Indexed.field-0 row c.in-Some-2.is c.in_ok-row-in-Indexed.ensures) in
+    let shapes = subst (λ xs. all_of (shapes_in (sources_table S) is) ≡ Some (location_shapes xs)) (sym c.as_slice-in-Some-2.ensures) c.in_ok-front-in-Indexed.ensures.shapes in
+    let all = subst (SpansAll S is c.args.draft.now c.emit_all-in-Indexed.new.draft) (sym c.as_slice-in-Some-2.ensures) c.in_ok-front-in-Indexed.ensures.spans in
+    ok_so c.load_row.result c.load_row.ensures.segment (λ s seg. row_spans S g ns is ls c.requires e front row shapes reads c.args.draft.now c.emit_all-in-Indexed.new.draft c.load_row.new.draft s all seg)

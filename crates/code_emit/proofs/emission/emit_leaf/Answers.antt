@@ -1,4 +1,4 @@
-use Rattle.std.proofs.Common.{◌≡◌, Some, option_map, sym, ap, ◌∙◌, refl}
+use Rattle.std.proofs.Common.{Some, option_map, sym, ap, ◌∙◌, refl}
 use Rattle.ground_net.specs.declared.ground.Ground.TheVariants.{Leaf}
 use Rattle.ground_net.proofs.Shaping.{shape-Leaf}
 use Rattle.code_emit.specs.Emits.{sources_table, source_shape}

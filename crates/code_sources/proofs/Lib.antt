@@ -1,0 +1,4 @@
+pub mod Reaching
+pub mod Standing
+pub mod Placing
+pub mod Picking
