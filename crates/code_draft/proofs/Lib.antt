@@ -16,3 +16,7 @@ pub mod PublishReading
 pub mod Written
 pub mod PortReading
 pub mod Effects
+pub mod Reaching
+pub mod Standing
+pub mod Placing
+pub mod Picking

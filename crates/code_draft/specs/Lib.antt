@@ -4,3 +4,6 @@ pub mod Pieces
 pub mod Publishing
 pub mod Writing
 pub mod Finishing
+pub mod Sources
+pub mod Rows
+pub mod Places

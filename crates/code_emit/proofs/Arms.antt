@@ -11,9 +11,9 @@ use Rattle.ground_net.proofs.Shaping.{and_then, shape-Leaf}
 use Rattle.flat_code.specs.declared.instr.Location.{Location}
 use Rattle.flat_code.specs.Meaning.{location_shape}
 use Rattle.flat_code.specs.Fine.{location_shapes, shape_of_picked}
-use Rattle.code_sources.specs.declared.sources.Source.{Source}
-use Rattle.code_sources.specs.declared.sources.Elements.{Elements}
-use Rattle.code_sources.specs.declared.sources.Sources.{Sources}
+use Rattle.code_draft.specs.declared.sources.Source.{Source}
+use Rattle.code_draft.specs.declared.sources.Elements.{Elements}
+use Rattle.code_draft.specs.declared.sources.Sources.{Sources}
 use Rattle.code_emit.specs.Emits.{AreShaped, shapes_in, sources_table, leaf_source, element_source, source_shape, elements_shape}
 use Rattle.code_emit.proofs.Rowing.{some_of}
 use Rattle.code_emit.proofs.Shaped.{some_same, all_of_push, all_shaped, op_parts, mux_parts, select_parts, load_parts, fit_parts, locations_are, load_shape, fit_shape_is}

@@ -25,10 +25,10 @@ use Rattle.code_draft.specs.Drafts.{IsDraft, Solved, Grows, Stands, Makes, Wante
 use Rattle.code_draft.proofs.Growing.{grows_then, grows_not, stands_on, all_stand_on}
 use Rattle.code_draft.proofs.Held.{held_value}
 use Rattle.code_emit.specs.Ways.{Cut, Given, IsMade, row_value, fit_of_one}
-use Rattle.code_sources.specs.declared.sources.Source.{Source}
-use Rattle.code_sources.specs.declared.sources.Source.TheVariants as source
-use Rattle.code_sources.specs.declared.sources.Elements.{Elements}
-use Rattle.code_sources.specs.declared.sources.Sources.{Sources}
+use Rattle.code_draft.specs.declared.sources.Source.{Source}
+use Rattle.code_draft.specs.declared.sources.Source.TheVariants as source
+use Rattle.code_draft.specs.declared.sources.Elements.{Elements}
+use Rattle.code_draft.specs.declared.sources.Sources.{Sources}
 use Rattle.code_emit.specs.Emits.{leaf_source, element_source, source_shape, elements_shape, sources_table, IsOf, Sees, Fits, AreSources, ValueOf, Emits, EmitsAll}
 use Rattle.code_emit.proofs.Shaped.{some_same, none_some}
 

@@ -22,7 +22,7 @@ use Rattle.code_draft.proofs.Joining.{segment_then, segment_weaker, step_then}
 use Rattle.code_draft.proofs.Stepping.{location_few}
 use Rattle.code_emit.specs.Ways.{Reckons}
 use Rattle.code_emit.proofs.Behind.{then_step}
-use Rattle.code_sources.specs.declared.sources.Sources.{Sources}
+use Rattle.code_draft.specs.declared.sources.Sources.{Sources}
 use Rattle.code_emit.specs.Emits.{shapes_in}
 use Rattle.code_emit.specs.Counts.{tips}
 use Rattle.code_emit.specs.Spans.{leaf_slots, ground_slots, Spans, SpansAll, ComeBefore, Follows, are_words}

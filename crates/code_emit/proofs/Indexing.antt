@@ -18,7 +18,7 @@ use Rattle.flat_code.specs.Fine.{location_shapes, location_slots, slots_of, form
 use Rattle.code_draft.specs.declared.draft.Draft.{Draft}
 use Rattle.code_draft.specs.Drafts.{IsDraft, Stands, Makes, IsForm}
 use Rattle.code_draft.specs.Segments.{Step}
-use Rattle.code_sources.specs.declared.sources.Sources.{Sources}
+use Rattle.code_draft.specs.declared.sources.Sources.{Sources}
 use Rattle.code_emit.specs.Emits.{as_leaves, AreShaped, shapes_in, sources_table, Emits, EmitsAll}
 use Rattle.code_emit.specs.Counts.{tips}
 use Rattle.code_emit.specs.Spans.{Spans, SpansAll}

@@ -11,9 +11,9 @@ use Rattle.ground_net.specs.declared.ground.Ground.TheVariants.{Const, Leaf, Op,
 use Rattle.ground_net.proofs.Layers.{maps}
 use Rattle.flat_code.specs.declared.instr.Location.{Location}
 use Rattle.code_draft.specs.declared.draft.Draft.{Draft}
-use Rattle.code_sources.specs.declared.sources.Source.{Source}
-use Rattle.code_sources.specs.declared.sources.Source.TheVariants as source
-use Rattle.code_sources.specs.declared.sources.Sources.{Sources}
+use Rattle.code_draft.specs.declared.sources.Source.{Source}
+use Rattle.code_draft.specs.declared.sources.Source.TheVariants as source
+use Rattle.code_draft.specs.declared.sources.Sources.{Sources}
 use Rattle.code_emit.specs.Emits.{leaf_source}
 use Rattle.code_emit.specs.Spans.{StandsThere}
 use Rattle.code_emit.proofs.Shaped.{some_same}

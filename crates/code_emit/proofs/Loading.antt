@@ -27,10 +27,10 @@ use Rattle.code_draft.proofs.Growing.{grows_then}
 use Rattle.code_draft.proofs.Joining.{segment_then, segment_weaker}
 use Rattle.code_draft.proofs.Segmenting.{among_left}
 use Rattle.code_draft.proofs.Stepping.{location_few}
-use Rattle.code_sources.specs.declared.sources.Elements.{Elements}
-use Rattle.code_sources.specs.declared.sources.Source.TheVariants as source
-use Rattle.code_sources.specs.declared.sources.Sources.{Sources}
-use Rattle.code_sources.specs.Rows.{IsWordAt, StandInRow, IsRow, IsPicked, element_at_place, slots_of_load}
+use Rattle.code_draft.specs.declared.sources.Elements.{Elements}
+use Rattle.code_draft.specs.declared.sources.Source.TheVariants as source
+use Rattle.code_draft.specs.declared.sources.Sources.{Sources}
+use Rattle.code_draft.specs.Rows.{IsWordAt, StandInRow, IsRow, IsPicked, element_at_place, slots_of_load}
 use Rattle.code_emit.specs.Emits.{source_shape, elements_shape, AreSources, shapes_in, sources_table, Sees, Emits, EmitsAll}
 use Rattle.code_emit.specs.Counts.{tips}
 use Rattle.code_emit.specs.Spans.{leaf_slots, ground_slots, Spans, SpansAll}

@@ -26,7 +26,7 @@ use Rattle.code_draft.specs.Drafts.{IsDraft, Stands, Makes}
 use Rattle.code_draft.proofs.Growing.{grows_then}
 use Rattle.code_draft.proofs.Held.{held_value}
 use Rattle.code_emit.specs.Ways.{Cut, IsMade, IsLowest, row_value}
-use Rattle.code_sources.specs.declared.sources.Sources.{Sources}
+use Rattle.code_draft.specs.declared.sources.Sources.{Sources}
 use Rattle.code_emit.specs.Emits.{AreShaped, shapes_in, sources_table, Emits, EmitsAll}
 use Rattle.code_emit.specs.Nested.{nested_value, nested_shape, TakesLowest}
 use Rattle.code_emit.proofs.Rowing.{some_of}

@@ -17,8 +17,8 @@ use Rattle.code_draft.specs.Segments.{Segment, Step}
 use Rattle.code_draft.proofs.Segmenting.{among_left, among_either, none_among}
 use Rattle.code_draft.proofs.Joining.{AreBefore, step_then, both_then, segment_weaker, segment_not, segment_then}
 use Rattle.code_draft.proofs.Stepping.{location_few}
-use Rattle.code_sources.specs.declared.sources.Source.{Source}
-use Rattle.code_sources.specs.declared.sources.Sources.{Sources}
+use Rattle.code_draft.specs.declared.sources.Source.{Source}
+use Rattle.code_draft.specs.declared.sources.Sources.{Sources}
 use Rattle.code_emit.specs.Emits.{leaf_source}
 use Rattle.code_emit.specs.Counts.{tips}
 use Rattle.code_emit.specs.Spans.{source_slots, found_slots, leaf_slots, ground_slots, AreFoundBefore, Spans, SpansAll, Evaluates, EvaluatesAll}

@@ -13,11 +13,11 @@ use Rattle.flat_code.specs.Fine.{InRegion, further_words}
 use Rattle.code_draft.specs.declared.draft.Draft.{Draft}
 use Rattle.code_draft.specs.Drafts.{IsDraft, Solved, Grows, Stands, Makes, Wanted, Holds, input_value}
 use Rattle.code_emit.specs.Ways.{Cut}
-use Rattle.code_sources.specs.declared.sources.Source.{Source}
-use Rattle.code_sources.specs.declared.sources.Source.TheVariants as source
-use Rattle.code_sources.specs.declared.sources.Elements.{Elements}
-use Rattle.code_sources.specs.declared.sources.Sources.{Sources}
-pub use Rattle.code_sources.specs.Sources.{leaf_source, element_source, kept_shape, source_shape, elements_shape, element_value}
+use Rattle.code_draft.specs.declared.sources.Source.{Source}
+use Rattle.code_draft.specs.declared.sources.Source.TheVariants as source
+use Rattle.code_draft.specs.declared.sources.Elements.{Elements}
+use Rattle.code_draft.specs.declared.sources.Sources.{Sources}
+pub use Rattle.code_draft.specs.Sources.{leaf_source, element_source, kept_shape, source_shape, elements_shape, element_value}
 
 -- Their kinds and widths.
 abbrev pub sources_table : Sources → Table

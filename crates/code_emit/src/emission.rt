@@ -9,7 +9,7 @@ ghost use Rattle.code_draft.specs.Segments.{Step};
 ghost use Rattle.ground_net.specs.declared.ground.Ground.TheVariants.{Leaf as Leaf_of};
 ghost use Rattle.code_emit.specs.Emits.{as_leaves, sources_table, source_shape, Emits, EmitsAll, AreShaped, shapes_in, Fits, IsOf, leaf_source, element_source};
 ghost use Rattle.code_emit.specs.Spans.{Spans, SpansAll, StandsThere, source_slots};
-ghost use Rattle.code_sources.specs.declared.sources.Source.TheVariants.{Frame as A_frame};
+ghost use Rattle.code_draft.specs.declared.sources.Source.TheVariants.{Frame as A_frame};
 ghost use Rattle.flat_code.specs.declared.instr.Location.{Location as TheLocation};
 
 use crate::chains::emit_choice;
@@ -17,8 +17,9 @@ use crate::forms::{items_measure, joined};
 use crate::nested::{Row, emit_nested, inner_of};
 use crate::values::{emit_fit, emit_operation};
 use bit_words::List;
-use code_draft::{Draft, constant, input, load, wide_value};
-use code_sources::{Elements, Source, Sources, load_row, row_of};
+use code_draft::{
+    Draft, Elements, Source, Sources, constant, input, load, load_row, row_of, wide_value,
+};
 use flat_code::{Form, Location};
 use ground_net::{Ground, Numbers};
 use std::alloc::{AllocError, Global};

@@ -8,7 +8,7 @@ ghost use Rattle.flat_code.specs.declared.instr.Location.{Location as TheLocatio
 ghost use Rattle.flat_code.specs.Meaning.{ran, location_value};
 ghost use Rattle.code_draft.specs.declared.draft.Draft.{Draft as TheDraft};
 ghost use Rattle.code_draft.specs.Drafts.{Makes};
-ghost use Rattle.code_sources.specs.declared.sources.Sources.{Sources as TheSources};
+ghost use Rattle.code_draft.specs.declared.sources.Sources.{Sources as TheSources};
 ghost use Rattle.code_emit.specs.Emits.{Sees, ValueOf};
 
 /// After a run from any frame the location of an emitted expression has its value at each instant that shows what the sources show.

@@ -13,7 +13,7 @@ use Rattle.ground_net.specs.Cones.{numbered}
 use Rattle.ground_net.specs.Cycles.{NetState, Capture, captures, captured_by, next, next_of_capture}
 use Rattle.ground_net.specs.Words.{captured_word}
 use Rattle.flat_code.specs.Meaning.{stored}
-use Rattle.code_sources.specs.declared.sources.Sources.{Sources}
+use Rattle.code_draft.specs.declared.sources.Sources.{Sources}
 use Rattle.code_emit.specs.Emits.{leaf_source}
 use Rattle.partition_code.specs.Effects.{capture_shape, capture_told, captures_told}
 use Rattle.code_memories.specs.Memories.{HasMemory, word_of, capture_of, capture_left}

@@ -9,7 +9,7 @@ use Rattle.ground_net.specs.declared.net.ElementLeaf.{ElementLeaf}
 use Rattle.code_memories.specs.declared.leaf.MemoryLeaf.{MemoryLeaf}
 use Rattle.code_memories.specs.NextReads.{captured_ground}
 use Rattle.code_draft.specs.declared.draft.Draft.{Draft}
-use Rattle.code_sources.specs.declared.sources.Sources.{Sources}
+use Rattle.code_draft.specs.declared.sources.Sources.{Sources}
 use Rattle.code_memories.specs.SinkGroups.{EvaluatesOnly}
 use Rattle.code_memories.proofs.RegisterEvaluating.{more_such, such_too}
 use Rattle.code_memories.proofs.Numbered.{some_same}

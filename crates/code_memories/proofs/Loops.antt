@@ -19,7 +19,7 @@ use Rattle.ground_net.specs.Nets.{IsNet, element_shape}
 use Rattle.flat_code.specs.declared.instr.Location.{Location}
 use Rattle.flat_code.specs.Meaning.{location_shape}
 use Rattle.code_draft.specs.declared.draft.Draft.{Draft}
-use Rattle.code_sources.specs.declared.sources.Sources.{Sources}
+use Rattle.code_draft.specs.declared.sources.Sources.{Sources}
 use Rattle.code_emit.specs.Emits.{sources_table, leaf_source, Emits}
 use Rattle.code_draft.specs.Publishing.{Publishes}
 use Rattle.partition_code.specs.Effects.{sinks_told, memory_told, writes_told}

@@ -21,9 +21,9 @@ use Rattle.flat_code.specs.Fine.{further_words, location_slots, InRegion}
 use Rattle.flat_code.proofs.Frames.{location_more}
 use Rattle.code_draft.specs.declared.draft.Draft.{Draft}
 use Rattle.code_draft.specs.Drafts.{IsDraft, pushed_in}
-use Rattle.code_sources.specs.declared.sources.Source.{Source}
-use Rattle.code_sources.specs.declared.sources.Source.TheVariants as source
-use Rattle.code_sources.specs.declared.sources.Sources.{Sources}
+use Rattle.code_draft.specs.declared.sources.Source.{Source}
+use Rattle.code_draft.specs.declared.sources.Source.TheVariants as source
+use Rattle.code_draft.specs.declared.sources.Sources.{Sources}
 use Rattle.code_emit.specs.Emits.{sources_table, Fits, AreSources, Emits}
 use Rattle.code_emit.proofs.Emitting.{sources_on}
 use Rattle.code_draft.specs.Publishing.{Tells, Publishes}

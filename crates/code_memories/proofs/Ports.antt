@@ -12,7 +12,7 @@ use Rattle.ground_net.specs.declared.net.ElementLeaf.{ElementLeaf}
 use Rattle.ground_net.specs.Cones.{A_memory, needs, needs_of_memory, port_needs, reads_need, or_no_leaf}
 use Rattle.ground_net.specs.Shapes.{Shape, shaped}
 use Rattle.ground_net.specs.Nets.{IsNet, IsPort, IsUnsigned, AreElements, table_of, leaf_shape, element_shape}
-use Rattle.code_sources.specs.declared.sources.Sources.{Sources}
+use Rattle.code_draft.specs.declared.sources.Sources.{Sources}
 use Rattle.code_emit.specs.Emits.{sources_table, element_source, elements_shape}
 use Rattle.code_memories.specs.declared.leaf.MemoryLeaf.{MemoryLeaf}
 use Rattle.code_memories.specs.NextReads.{IsUInt, HasReader, HasWriter, HasCapture}

@@ -12,7 +12,7 @@ use Rattle.flat_code.specs.declared.instr.Location.{Location}
 use Rattle.flat_code.specs.Fine.{location_slots}
 use Rattle.code_draft.specs.declared.draft.Draft.{Draft}
 use Rattle.code_draft.specs.Segments.{Segment}
-use Rattle.code_sources.specs.declared.sources.Sources.{Sources}
+use Rattle.code_draft.specs.declared.sources.Sources.{Sources}
 use Rattle.code_emit.specs.Counts.{nodes, tips}
 use Rattle.code_emit.specs.Spans.{Spans, EvaluatesAll}
 use Rattle.std.proofs.lemmas.List.Elements.{All-cons, All-nil, All-append}

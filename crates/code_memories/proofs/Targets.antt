@@ -20,9 +20,9 @@ use Rattle.code_draft.specs.declared.draft.Draft.{Draft}
 use Rattle.code_draft.specs.Drafts.{Stands, pushed_in}
 use Rattle.code_draft.proofs.Growing.{grows_then, stands_on}
 use Rattle.code_draft.proofs.Held.{held_value}
-use Rattle.code_sources.specs.declared.sources.Source.{Source}
-use Rattle.code_sources.specs.declared.sources.Source.TheVariants as source
-use Rattle.code_sources.specs.declared.sources.Sources.{Sources}
+use Rattle.code_draft.specs.declared.sources.Source.{Source}
+use Rattle.code_draft.specs.declared.sources.Source.TheVariants as source
+use Rattle.code_draft.specs.declared.sources.Sources.{Sources}
 use Rattle.code_emit.specs.Emits.{sources_table, Sees, Fits, AreSources, Emits, EmitsAll}
 use Rattle.code_emit.proofs.Emitting.{sources_on}
 use Rattle.code_draft.specs.Writing.{HasPort, TellsBy, PublishesBy}

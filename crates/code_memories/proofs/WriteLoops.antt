@@ -12,7 +12,7 @@ use Rattle.ground_net.specs.Cones.{numbered}
 use Rattle.ground_net.specs.Cycles.{shown}
 use Rattle.ground_net.specs.Nets.{IsNet, element_shape, element_shapes}
 use Rattle.code_draft.specs.declared.draft.Draft.{Draft}
-use Rattle.code_sources.specs.declared.sources.Sources.{Sources}
+use Rattle.code_draft.specs.declared.sources.Sources.{Sources}
 use Rattle.ground_net.specs.declared.ground.Ground.TheVariants.{Leaf}
 use Rattle.ground_net.specs.Shapes.{shape}
 use Rattle.code_emit.specs.Emits.{element_source, sources_table}

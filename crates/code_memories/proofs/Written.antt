@@ -28,8 +28,8 @@ use Rattle.ground_net.proofs.Shaping.{shape-Leaf}
 use Rattle.flat_code.specs.Meaning.{stored, stored_where}
 use Rattle.flat_code.specs.Fine.{InRegion}
 use Rattle.code_draft.specs.declared.draft.Draft.{Draft}
-use Rattle.code_sources.specs.declared.sources.Elements.{Elements}
-use Rattle.code_sources.specs.declared.sources.Sources.{Sources}
+use Rattle.code_draft.specs.declared.sources.Elements.{Elements}
+use Rattle.code_draft.specs.declared.sources.Sources.{Sources}
 use Rattle.code_emit.specs.Emits.{sources_table, element_source, elements_shape}
 use Rattle.code_emit.proofs.Emitting.{seen_shapes}
 use Rattle.partition_code.specs.FromNets.{HasElements}

@@ -5,9 +5,9 @@ use Rattle.ground_net.specs.declared.net.NetMemory.{NetMemory}
 use Rattle.ground_net.specs.declared.net.NetPort.{NetPort}
 use Rattle.ground_net.specs.declared.net.NetRead.{NetRead}
 use Rattle.ground_net.specs.declared.net.ElementLeaf.{ElementLeaf}
-use Rattle.code_sources.specs.declared.sources.Source.TheVariants as source
-use Rattle.code_sources.specs.declared.sources.Kept.{Kept}
-use Rattle.code_sources.specs.declared.sources.Sources.{Sources}
+use Rattle.code_draft.specs.declared.sources.Source.TheVariants as source
+use Rattle.code_draft.specs.declared.sources.Kept.{Kept}
+use Rattle.code_draft.specs.declared.sources.Sources.{Sources}
 use Rattle.code_emit.specs.Emits.{leaf_source}
 
 -- there is such a port, its reads are captured, and a leaf shows this leaf of an element

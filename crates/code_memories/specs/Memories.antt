@@ -13,11 +13,11 @@ use Rattle.ground_net.specs.Cycles.{NetState, Capture, captures, next_of_capture
 use Rattle.ground_net.specs.Nets.{table_of}
 use Rattle.ground_net.specs.Words.{captured_word}
 use Rattle.flat_code.specs.Meaning.{stored}
-use Rattle.code_sources.specs.declared.sources.Source.{Source}
-use Rattle.code_sources.specs.declared.sources.Source.TheVariants as source
-use Rattle.code_sources.specs.declared.sources.Kept.{Kept}
-use Rattle.code_sources.specs.declared.sources.Elements.{Elements}
-use Rattle.code_sources.specs.declared.sources.Sources.{Sources}
+use Rattle.code_draft.specs.declared.sources.Source.{Source}
+use Rattle.code_draft.specs.declared.sources.Source.TheVariants as source
+use Rattle.code_draft.specs.declared.sources.Kept.{Kept}
+use Rattle.code_draft.specs.declared.sources.Elements.{Elements}
+use Rattle.code_draft.specs.declared.sources.Sources.{Sources}
 use Rattle.code_emit.specs.Emits.{sources_table, leaf_source, element_source, kept_shape}
 use Rattle.partition_code.specs.FromNets.{HasElements}
 use Rattle.partition_code.specs.Effects.{capture_shape}

@@ -6,7 +6,7 @@ use Rattle.ground_net.specs.declared.net.NetRegister.{NetRegister}
 use Rattle.ground_net.specs.Reads.{driver_of}
 use Rattle.code_memories.specs.Nexts.{next_ground}
 use Rattle.code_draft.specs.declared.draft.Draft.{Draft}
-use Rattle.code_sources.specs.declared.sources.Sources.{Sources}
+use Rattle.code_draft.specs.declared.sources.Sources.{Sources}
 use Rattle.code_emit.specs.Spans.{AreFoundBefore, Evaluates}
 
 abbrev pub found_groups : Net → Option NetRegister → List (List Ground)

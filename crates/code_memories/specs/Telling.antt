@@ -17,7 +17,7 @@ use Rattle.code_memories.specs.Nexts.{next_ground}
 use Rattle.partition_code.specs.Effects.{register_shape, sinks_told, HasWord}
 use Rattle.code_draft.specs.declared.draft.Draft.{Draft}
 use Rattle.code_draft.specs.Drafts.{IsDraft, Solved, written_in, pushed_in}
-use Rattle.code_sources.specs.declared.sources.Sources.{Sources}
+use Rattle.code_draft.specs.declared.sources.Sources.{Sources}
 use Rattle.code_emit.specs.Emits.{sources_table, Sees, AreSources}
 
 -- what is held at an address, and 0 past the depth

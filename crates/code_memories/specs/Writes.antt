@@ -11,7 +11,7 @@ use Rattle.flat_code.specs.Meaning.{stored_where}
 use Rattle.flat_code.specs.Fine.{InRegion}
 use Rattle.code_draft.specs.declared.draft.Draft.{Draft}
 use Rattle.code_draft.specs.Drafts.{IsDraft}
-use Rattle.code_sources.specs.declared.sources.Sources.{Sources}
+use Rattle.code_draft.specs.declared.sources.Sources.{Sources}
 use Rattle.code_emit.specs.Emits.{sources_table, AreSources}
 use Rattle.code_memories.specs.Telling.{Left, TellsLeft}
 use Rattle.code_memories.specs.declared.places.Target.{Target}

@@ -17,9 +17,8 @@ ghost use Rattle.code_memories.specs.Groups.{IsCaptureGroup};
 use crate::leaf::MemoryLeaf;
 use crate::next_reads::captured_ground;
 use crate::places::{MemoryAt, PortAt, PortLeaf, memory_of, port_of};
-use code_draft::{Draft, publish};
+use code_draft::{Draft, Source, Sources, publish};
 use code_emit::emit;
-use code_sources::{Source, Sources};
 use std::alloc::{AllocError, Global};
 
 /// Adds code that publishes what the captured reads of a memory show next, port by port and leaf by leaf.

@@ -11,9 +11,8 @@ ghost use Rattle.code_memories.specs.Writes.{TellsTarget};
 
 use crate::places::Target;
 use bit_words::List;
-use code_draft::{Draft, publish_by};
+use code_draft::{Draft, Sources, publish_by};
 use code_emit::emit;
-use code_sources::Sources;
 use flat_code::{Location, Port};
 use ground_net::Ground;
 use std::alloc::{AllocError, Global};

@@ -12,8 +12,7 @@ ghost use Rattle.code_memories.specs.Groups.{IsMemoryGroup};
 use crate::captures::publish_captures;
 use crate::places::MemoryAt;
 use crate::writes::publish_writes;
-use code_draft::Draft;
-use code_sources::Sources;
+use code_draft::{Draft, Sources};
 use ground_net::Net;
 use std::alloc::{AllocError, Global};
 

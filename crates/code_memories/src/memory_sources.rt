@@ -8,7 +8,7 @@ ghost use Rattle.ground_net.specs.declared.net.ElementLeaf.{ElementLeaf as TheLe
 ghost use Rattle.ground_net.specs.Grounds.{Instant};
 ghost use Rattle.ground_net.specs.Cycles.{NetState, captured_by};
 ghost use Rattle.ground_net.specs.Nets.{IsNet, element_shape};
-ghost use Rattle.code_sources.specs.declared.sources.Sources.{Sources as TheSources};
+ghost use Rattle.code_draft.specs.declared.sources.Sources.{Sources as TheSources};
 ghost use Rattle.code_emit.specs.Emits.{sources_table};
 ghost use Rattle.code_memories.specs.NextReads.{HasWriter};
 ghost use Rattle.partition_code.specs.Effects.{captures_told};

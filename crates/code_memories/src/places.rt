@@ -3,7 +3,7 @@
 ghost use Rattle.std.specs.Prelude.{◌≡◌, Some, IsSome, slice_get};
 ghost use Rattle.code_memories.specs.Memories.{HasMemory};
 
-use code_sources::Sources;
+use code_draft::Sources;
 use flat_code::Region;
 use ground_net::{Net, NetMemory, NetPort};
 

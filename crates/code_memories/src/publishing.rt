@@ -8,9 +8,8 @@ ghost use Rattle.code_memories.specs.Telling.{IsNextShaped, PublishesSinks};
 ghost use Rattle.code_memories.specs.SinkGroups.{register_groups};
 
 use crate::registers::next_ground;
-use code_draft::{Draft, publish};
+use code_draft::{Draft, Sources, publish};
 use code_emit::emit;
-use code_sources::Sources;
 use ground_net::Net;
 use std::alloc::{AllocError, Global};
 

@@ -12,10 +12,10 @@ use Rattle.ground_net.specs.Words.{word_count, count_words, register_word, captu
 use Rattle.flat_code.specs.Fine.{InRegion, further_words}
 use Rattle.partition_code.proofs.Parts.{further_is, register_part, memory_part, captured_part, element_part}
 use Rattle.code_draft.specs.declared.draft.Draft.{Draft}
-use Rattle.code_sources.specs.declared.sources.Source.{Source}
-use Rattle.code_sources.specs.declared.sources.Source.TheVariants as source
-use Rattle.code_sources.specs.declared.sources.Sources.{Sources}
-use Rattle.code_sources.specs.declared.sources.Elements.{Elements}
+use Rattle.code_draft.specs.declared.sources.Source.{Source}
+use Rattle.code_draft.specs.declared.sources.Source.TheVariants as source
+use Rattle.code_draft.specs.declared.sources.Sources.{Sources}
+use Rattle.code_draft.specs.declared.sources.Elements.{Elements}
 use Rattle.code_emit.specs.Emits.{kept_shape, Fits, AreSources}
 use Rattle.partition_code.specs.FromNets.{IsFrom, HasElements, AreOf}
 

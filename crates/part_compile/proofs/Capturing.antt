@@ -24,7 +24,7 @@ use Rattle.ground_net.specs.Cycles.{mask_leaf, written_leaf}
 use Rattle.ground_net.specs.Nets.{IsPort}
 use Rattle.code_memories.specs.declared.leaf.MemoryLeaf.{MemoryLeaf}
 use Rattle.code_memories.specs.NextReads.{one_bit, zero_bit, both_ground, unless_ground, writing_ground, reading_ground, same_ground, below_ground, over_leaf, over_ground, there_ground, captured_ground}
-use Rattle.code_sources.specs.declared.sources.Sources.{Sources}
+use Rattle.code_draft.specs.declared.sources.Sources.{Sources}
 use Rattle.code_emit.specs.Counts.{nodes, tips}
 use Rattle.code_emit.proofs.Counting.{tips_few}
 use Rattle.code_memories.specs.Groups.{IsCaptureGroup}

@@ -17,7 +17,7 @@ use Rattle.ground_net.specs.Cones.{Sink, A_register, A_memory, needs, needs_of_r
 use Rattle.ground_net.proofs.Layers.{mentions-Leaf, mentions-Mux}
 use Rattle.flat_code.specs.Fine.{among}
 use Rattle.code_memories.specs.Nexts.{driven_ground, reset_ground, next_ground}
-use Rattle.code_sources.specs.declared.sources.Sources.{Sources}
+use Rattle.code_draft.specs.declared.sources.Sources.{Sources}
 use Rattle.code_emit.specs.Counts.{nodes, tips}
 use Rattle.code_emit.specs.Spans.{leaf_slots}
 use Rattle.code_emit.proofs.Counting.{tips-Leaf, tips-Mux, tips_few, tips_some}

@@ -13,10 +13,10 @@ use Rattle.ground_net.specs.Reads.{IsAssigned}
 use Rattle.ground_net.specs.Cycles.{Capture, captures, element_leaf}
 use Rattle.ground_net.specs.Nets.{IsNet, shape_or_none}
 use Rattle.ground_net.specs.Words.{captured_word}
-use Rattle.code_sources.specs.declared.sources.Source.{Source}
-use Rattle.code_sources.specs.declared.sources.Source.TheVariants as source
-use Rattle.code_sources.specs.declared.sources.Elements.{Elements}
-use Rattle.code_sources.specs.declared.sources.Sources.{Sources}
+use Rattle.code_draft.specs.declared.sources.Source.{Source}
+use Rattle.code_draft.specs.declared.sources.Source.TheVariants as source
+use Rattle.code_draft.specs.declared.sources.Elements.{Elements}
+use Rattle.code_draft.specs.declared.sources.Sources.{Sources}
 use Rattle.code_emit.specs.Emits.{leaf_source, element_source}
 use Rattle.code_emit.proofs.Rowing.{some_of}
 use Rattle.code_emit.proofs.Shaped.{some_is, some_same}

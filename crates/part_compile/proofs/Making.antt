@@ -23,7 +23,7 @@ use Rattle.partition_code.specs.Effects.{HasWord, sink_told, sinks_told}
 use Rattle.code_draft.specs.declared.draft.Draft.{Draft}
 use Rattle.code_draft.specs.Drafts.{IsDraft, Solved, Stands, pushed_in}
 use Rattle.code_draft.proofs.Held.{held_value}
-use Rattle.code_sources.specs.declared.sources.Sources.{Sources}
+use Rattle.code_draft.specs.declared.sources.Sources.{Sources}
 use Rattle.code_emit.specs.Emits.{Sees, AreSources, Emits}
 use Rattle.code_emit.proofs.Emitting.{sources_on}
 use Rattle.code_memories.specs.Telling.{TellsSinks, TellsLeft}

@@ -10,7 +10,7 @@ use Rattle.ground_net.specs.Cones.{Sink, A_memory, sinks, InCone}
 use Rattle.cone_cutter.specs.declared.sinks.SinkAt.{SinkAt}
 use Rattle.cone_cutter.specs.Rows.{sink_of}
 use Rattle.code_draft.specs.declared.draft.Draft.{Draft}
-use Rattle.code_sources.specs.declared.sources.Sources.{Sources}
+use Rattle.code_draft.specs.declared.sources.Sources.{Sources}
 use Rattle.code_emit.specs.Emits.{sources_table}
 use Rattle.code_memories.specs.Telling.{TellsSinks}
 use Rattle.part_compile.proofs.InTurn.{knows_for}

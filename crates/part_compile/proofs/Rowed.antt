@@ -20,11 +20,11 @@ use Rattle.ground_net.specs.Shapes.{Shape}
 use Rattle.ground_net.specs.Cycles.{Capture, captures, element_leaf, fitted_to}
 use Rattle.ground_net.specs.Nets.{IsNet, shape_or_none, element_shape, element_shapes, register_shapes, captured_shapes}
 use Rattle.ground_net.specs.Words.{word_count, count_words, register_word, captured_word, memory_word, element_words, memory_words, SaysItsWords}
-use Rattle.code_sources.specs.declared.sources.Kept.{Kept}
-use Rattle.code_sources.specs.declared.sources.Source.{Source}
-use Rattle.code_sources.specs.declared.sources.Source.TheVariants as source
-use Rattle.code_sources.specs.declared.sources.Elements.{Elements}
-use Rattle.code_sources.specs.declared.sources.Sources.{Sources}
+use Rattle.code_draft.specs.declared.sources.Kept.{Kept}
+use Rattle.code_draft.specs.declared.sources.Source.{Source}
+use Rattle.code_draft.specs.declared.sources.Source.TheVariants as source
+use Rattle.code_draft.specs.declared.sources.Elements.{Elements}
+use Rattle.code_draft.specs.declared.sources.Sources.{Sources}
 use Rattle.code_emit.specs.Emits.{leaf_source, element_source}
 use Rattle.code_emit.proofs.Rowing.{some_of}
 use Rattle.code_emit.proofs.Shaped.{some_is}

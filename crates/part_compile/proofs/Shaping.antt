@@ -24,7 +24,7 @@ use Rattle.code_emit.proofs.Shaped.{some_is}
 use Rattle.code_memories.specs.Nexts.{driven_ground, reset_ground, next_ground}
 use Rattle.code_memories.proofs.NextValues.{next_shape}
 use Rattle.partition_code.specs.Effects.{register_shape}
-use Rattle.code_sources.specs.declared.sources.Sources.{Sources}
+use Rattle.code_draft.specs.declared.sources.Sources.{Sources}
 use Rattle.code_emit.specs.Emits.{sources_table}
 use Rattle.code_memories.specs.Telling.{IsNextShaped, HaveWords}
 use Rattle.part_compile.specs.Knowing.{Knows}

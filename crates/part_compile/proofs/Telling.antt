@@ -5,7 +5,7 @@ use Rattle.ground_net.specs.Grounds.{mentions}
 use Rattle.flat_code.specs.Fine.{among}
 use Rattle.code_draft.specs.declared.draft.Draft.{Draft}
 use Rattle.code_draft.proofs.Segmenting.{none_among, among_either, head_all, tail_all}
-use Rattle.code_sources.specs.declared.sources.Sources.{Sources}
+use Rattle.code_draft.specs.declared.sources.Sources.{Sources}
 use Rattle.code_emit.specs.Counts.{tips}
 use Rattle.code_emit.specs.Spans.{leaf_slots, ground_slots, Evaluates}
 use Rattle.code_draft.specs.Pieces.{StandsIn, AddsPieces}

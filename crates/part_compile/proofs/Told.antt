@@ -13,7 +13,7 @@ use Rattle.flat_code.specs.declared.instr.Location.{Location}
 use Rattle.flat_code.specs.Fine.{among, location_slots, slots_of}
 use Rattle.code_draft.specs.declared.draft.Draft.{Draft}
 use Rattle.code_draft.proofs.Segmenting.{none_among, among_either}
-use Rattle.code_sources.specs.declared.sources.Sources.{Sources}
+use Rattle.code_draft.specs.declared.sources.Sources.{Sources}
 use Rattle.code_emit.specs.Spans.{leaf_slots, found_slots, AreFoundBefore}
 use Rattle.code_memories.specs.SinkGroups.{found_groups}
 use Rattle.code_memories.specs.Groups.{IsMemoryGroup}

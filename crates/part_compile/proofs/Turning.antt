@@ -11,8 +11,8 @@ use Rattle.code_draft.specs.declared.draft.Draft.{Draft}
 use Rattle.code_draft.specs.Segments.{GoesOn}
 use Rattle.code_draft.proofs.Joining.{goes_then}
 use Rattle.code_draft.proofs.Segmenting.{none_among, among_either}
-use Rattle.code_sources.specs.declared.sources.Source.TheVariants as source
-use Rattle.code_sources.specs.declared.sources.Sources.{Sources}
+use Rattle.code_draft.specs.declared.sources.Source.TheVariants as source
+use Rattle.code_draft.specs.declared.sources.Sources.{Sources}
 use Rattle.code_emit.specs.Counts.{tips}
 use Rattle.code_emit.specs.Spans.{leaf_slots, ground_slots}
 use Rattle.partition_code.specs.Sequences.{driver_in}

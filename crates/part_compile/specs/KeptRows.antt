@@ -10,9 +10,9 @@ use Rattle.ground_net.specs.declared.net.Role.TheVariants as role
 use Rattle.ground_net.specs.Shapes.{Shape}
 use Rattle.ground_net.specs.Nets.{shape_or_none, leaf_shape, element_shape, element_shapes}
 use Rattle.ground_net.specs.Words.{count_words, element_words}
-use Rattle.code_sources.specs.declared.sources.Kept.{Kept}
-use Rattle.code_sources.specs.declared.sources.Source.{Source}
-use Rattle.code_sources.specs.declared.sources.Elements.{Elements}
+use Rattle.code_draft.specs.declared.sources.Kept.{Kept}
+use Rattle.code_draft.specs.declared.sources.Source.{Source}
+use Rattle.code_draft.specs.declared.sources.Elements.{Elements}
 use Rattle.code_emit.specs.Emits.{kept_shape, elements_shape}
 use Rattle.partition_code.specs.FromNets.{IsFrom}
 use Rattle.part_compile.specs.declared.captured.CapturedRead.{CapturedRead}

@@ -15,7 +15,7 @@ use Rattle.flat_code.specs.Meaning.{location_values}
 use Rattle.partition_code.specs.Effects.{HasWord, IsWordOf, capture_shape}
 use Rattle.code_draft.specs.declared.draft.Draft.{Draft}
 use Rattle.code_draft.specs.Drafts.{IsDraft, Solved, Stands}
-use Rattle.code_sources.specs.declared.sources.Sources.{Sources}
+use Rattle.code_draft.specs.declared.sources.Sources.{Sources}
 use Rattle.code_emit.specs.Emits.{sources_table, Sees, AreSources}
 use Rattle.code_memories.specs.Telling.{TellsSinks}
 use Rattle.part_compile.specs.declared.captured.CapturedRead.{CapturedRead}

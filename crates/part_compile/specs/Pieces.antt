@@ -8,7 +8,7 @@ use Rattle.flat_code.specs.declared.code.Code.{Code}
 use Rattle.flat_code.specs.Fine.{among, slots_of}
 use Rattle.ground_net.specs.declared.ground.Ground.{Ground}
 use Rattle.ground_net.specs.Grounds.{mentions}
-use Rattle.code_sources.specs.declared.sources.Sources.{Sources}
+use Rattle.code_draft.specs.declared.sources.Sources.{Sources}
 use Rattle.code_emit.specs.Counts.{tips}
 use Rattle.code_emit.specs.Spans.{leaf_slots}
 use Rattle.code_draft.specs.Pieces.{Piece, Follow, end_of, instrs_of, StandsIn, IsPiece, IsAside}

@@ -7,7 +7,7 @@ use Rattle.ground_net.specs.declared.net.CutPart.{CutPart}
 use Rattle.ground_net.specs.Cones.{Sink, sinks, InCone}
 use Rattle.ground_net.specs.Reads.{IsOrder}
 use Rattle.ground_net.specs.Cycles.{Capture, captures}
-use Rattle.code_sources.specs.declared.sources.Sources.{Sources}
+use Rattle.code_draft.specs.declared.sources.Sources.{Sources}
 use Rattle.code_emit.specs.Emits.{sources_table}
 use Rattle.cone_cutter.specs.declared.rows.NetRows.{NetRows}
 use Rattle.cone_cutter.specs.Rows.{sink_of, read_rows, need_rows, reads_in, needs_in, AreNetRows}

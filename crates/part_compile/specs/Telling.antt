@@ -7,8 +7,8 @@ use Rattle.ground_net.specs.Cones.{Sink, A_watched, A_register, A_memory}
 use Rattle.flat_code.specs.declared.instr.Location.{Location}
 use Rattle.flat_code.specs.Fine.{among, slots_of}
 use Rattle.code_draft.specs.declared.draft.Draft.{Draft}
-use Rattle.code_sources.specs.declared.sources.Source.TheVariants as source
-use Rattle.code_sources.specs.declared.sources.Sources.{Sources}
+use Rattle.code_draft.specs.declared.sources.Source.TheVariants as source
+use Rattle.code_draft.specs.declared.sources.Sources.{Sources}
 use Rattle.code_emit.specs.Emits.{leaf_source}
 use Rattle.code_emit.specs.Spans.{leaf_slots, AreFoundBefore}
 use Rattle.code_memories.specs.SinkGroups.{EvaluatesOnly}

@@ -13,7 +13,7 @@ ghost use Rattle.flat_code.specs.declared.code.Code.{Code as TheCode};
 ghost use Rattle.flat_code.specs.Codes.{frame_length};
 ghost use Rattle.flat_code.specs.Fine.{among, slots_of};
 ghost use Rattle.code_draft.specs.declared.draft.Draft.{Draft as TheDraft};
-ghost use Rattle.code_sources.specs.declared.sources.Sources.{Sources as TheSources};
+ghost use Rattle.code_draft.specs.declared.sources.Sources.{Sources as TheSources};
 ghost use Rattle.code_emit.specs.Counts.{tips};
 ghost use Rattle.code_emit.specs.Spans.{leaf_slots, Evaluates};
 ghost use Rattle.partition_code.specs.Sequences.{driver_in};

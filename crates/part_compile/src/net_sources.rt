@@ -5,7 +5,7 @@ ghost use Rattle.ground_net.specs.declared.net.Net.{Net as TheNet};
 ghost use Rattle.ground_net.specs.Nets.{IsNet};
 ghost use Rattle.ground_net.specs.Words.{state_words};
 ghost use Rattle.code_draft.specs.declared.draft.Draft.{Draft as TheDraft};
-ghost use Rattle.code_sources.specs.declared.sources.Sources.{Sources as TheSources};
+ghost use Rattle.code_draft.specs.declared.sources.Sources.{Sources as TheSources};
 ghost use Rattle.code_emit.specs.Emits.{AreSources};
 ghost use Rattle.partition_code.specs.FromNets.{AreOf};
 

@@ -10,7 +10,7 @@ ghost use Rattle.part_compile.specs.KeptRows.{IsLeafOf, IsSourceOf, AreSourcesOf
 
 use crate::words::{FirstWords, element_words, words_of_width};
 use bit_words::{List, Value, from_words};
-use code_sources::{Elements, Kept, Source, Sources};
+use code_draft::{Elements, Kept, Source, Sources};
 use flat_code::Region;
 use ground_net::{Leaf, Net, NetMemory, Role};
 use std::alloc::{AllocError, Global};

@@ -9,7 +9,7 @@ ghost use Rattle.ground_net.specs.Reads.{IsAssigned, IsOrder};
 ghost use Rattle.ground_net.specs.Shapes.{Shape, Table, shape};
 ghost use Rattle.ground_net.specs.Nets.{IsNet, table_of};
 ghost use Rattle.cone_cutter.specs.Splits.{IsUnion};
-ghost use Rattle.code_sources.specs.declared.sources.Sources.{Sources as TheSources};
+ghost use Rattle.code_draft.specs.declared.sources.Sources.{Sources as TheSources};
 ghost use Rattle.code_emit.specs.Emits.{sources_table};
 ghost use Rattle.partition_code.specs.Sequences.{InTurn, turned_table};
 ghost use Rattle.part_compile.specs.Complete.{AreAllOf};

@@ -3,8 +3,7 @@
 use crate::captured::CapturedRead;
 use crate::words::FirstWords;
 use bit_words::List;
-use code_draft::Draft;
-use code_sources::Sources;
+use code_draft::{Draft, Sources};
 use flat_code::{Location, Span};
 use ground_net::Net;
 

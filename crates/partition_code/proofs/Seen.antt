@@ -21,11 +21,11 @@ use Rattle.ground_net.proofs.Shaping.{fitted_shape}
 use Rattle.flat_code.specs.Meaning.{input_word, input_high, low_of, high_of}
 use Rattle.code_draft.specs.Drafts.{input_value}
 use Rattle.code_draft.proofs.Cuts.{fitted_bits}
-use Rattle.code_sources.specs.declared.sources.Source.{Source}
-use Rattle.code_sources.specs.declared.sources.Source.TheVariants as source
-use Rattle.code_sources.specs.declared.sources.Kept.{Kept}
-use Rattle.code_sources.specs.declared.sources.Elements.{Elements}
-use Rattle.code_sources.specs.declared.sources.Sources.{Sources}
+use Rattle.code_draft.specs.declared.sources.Source.{Source}
+use Rattle.code_draft.specs.declared.sources.Source.TheVariants as source
+use Rattle.code_draft.specs.declared.sources.Kept.{Kept}
+use Rattle.code_draft.specs.declared.sources.Elements.{Elements}
+use Rattle.code_draft.specs.declared.sources.Sources.{Sources}
 use Rattle.code_emit.specs.Emits.{kept_shape, elements_shape, element_value, IsOf, Sees}
 use Rattle.partition_code.specs.FromNets.{IsFrom, HasSource, HasElements, AreOf, MatchInputs}
 

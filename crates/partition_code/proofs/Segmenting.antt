@@ -7,7 +7,7 @@ use Rattle.ground_net.specs.declared.ground.Ground.{Ground}
 use Rattle.flat_code.specs.declared.instr.Location.{Location}
 use Rattle.flat_code.specs.Fine.{among, location_slots}
 use Rattle.code_draft.specs.declared.draft.Draft.{Draft}
-use Rattle.code_sources.specs.declared.sources.Sources.{Sources}
+use Rattle.code_draft.specs.declared.sources.Sources.{Sources}
 use Rattle.code_emit.specs.Spans.{found_slots, leaf_slots, Spans}
 use Rattle.code_emit.proofs.Spanning.{ground_before}
 use Rattle.partition_code.specs.Sequences.{driver_in}

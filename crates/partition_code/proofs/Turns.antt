@@ -12,8 +12,8 @@ use Rattle.flat_code.specs.declared.instr.Location.{Location}
 use Rattle.flat_code.specs.Meaning.{location_shape}
 use Rattle.code_draft.specs.declared.draft.Draft.{Draft}
 use Rattle.code_draft.proofs.Growing.{grows_then, grows_not}
-use Rattle.code_sources.specs.declared.sources.Source.TheVariants as source
-use Rattle.code_sources.specs.declared.sources.Sources.{Sources}
+use Rattle.code_draft.specs.declared.sources.Source.TheVariants as source
+use Rattle.code_draft.specs.declared.sources.Sources.{Sources}
 use Rattle.code_emit.specs.Emits.{leaf_source, source_shape, sources_table, IsOf, Fits, Emits}
 use Rattle.code_emit.proofs.Emitting.{sources_on}
 use Rattle.partition_code.specs.Sequences.{driver_in, with_shape, turned_table, InTurn, Turned, Assigns, StandElsewhere}

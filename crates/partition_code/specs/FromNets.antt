@@ -11,10 +11,10 @@ use Rattle.ground_net.specs.Shapes.{shape_of_value}
 use Rattle.ground_net.specs.Cycles.{Inputs, fitted_to}
 use Rattle.ground_net.specs.Nets.{leaf_shape, element_shape}
 use Rattle.ground_net.specs.Words.{register_word, captured_word, element_word, element_words}
-use Rattle.code_sources.specs.declared.sources.Source.{Source}
-use Rattle.code_sources.specs.declared.sources.Source.TheVariants as source
-use Rattle.code_sources.specs.declared.sources.Elements.{Elements}
-use Rattle.code_sources.specs.declared.sources.Sources.{Sources}
+use Rattle.code_draft.specs.declared.sources.Source.{Source}
+use Rattle.code_draft.specs.declared.sources.Source.TheVariants as source
+use Rattle.code_draft.specs.declared.sources.Elements.{Elements}
+use Rattle.code_draft.specs.declared.sources.Sources.{Sources}
 use Rattle.code_emit.specs.Emits.{leaf_source, element_source, kept_shape, elements_shape}
 
 -- A source of a leaf by its role: a register's word, or that of a captured read; an input; and 0 of a Clock. None is in a frame.

@@ -5,8 +5,8 @@ use Rattle.flat_code.specs.declared.instr.Location.{Location}
 use Rattle.flat_code.specs.Fine.{location_slots}
 use Rattle.code_draft.specs.declared.draft.Draft.{Draft}
 use Rattle.code_draft.specs.Segments.{Segment}
-use Rattle.code_sources.specs.declared.sources.Source.TheVariants as source
-use Rattle.code_sources.specs.declared.sources.Sources.{Sources}
+use Rattle.code_draft.specs.declared.sources.Source.TheVariants as source
+use Rattle.code_draft.specs.declared.sources.Sources.{Sources}
 use Rattle.code_emit.specs.Counts.{tips}
 use Rattle.code_emit.specs.Spans.{ground_slots, AreFoundBefore}
 use Rattle.partition_code.specs.Sequences.{driver_in}

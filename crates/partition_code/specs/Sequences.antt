@@ -6,7 +6,7 @@ use Rattle.ground_net.specs.Grounds.{Instant, value}
 use Rattle.ground_net.specs.Shapes.{Shape, Table, shape}
 use Rattle.code_draft.specs.declared.draft.Draft.{Draft}
 use Rattle.code_draft.specs.Drafts.{IsDraft, Solved, Grows}
-use Rattle.code_sources.specs.declared.sources.Sources.{Sources}
+use Rattle.code_draft.specs.declared.sources.Sources.{Sources}
 use Rattle.code_emit.specs.Emits.{sources_table, leaf_source, Sees, AreSources}
 
 -- the driver of a leaf

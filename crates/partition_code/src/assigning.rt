@@ -5,9 +5,8 @@ ghost use Rattle.code_emit.specs.Emits.{sources_table};
 ghost use Rattle.partition_code.specs.Sequences.{InTurn, Turned, Assigns, StandElsewhere, turned_table};
 ghost use Rattle.partition_code.specs.Segmented.{AreSegments};
 
-use code_draft::Draft;
+use code_draft::{Draft, Source, Sources};
 use code_emit::emit;
-use code_sources::{Source, Sources};
 use ground_net::Ground;
 use std::alloc::{AllocError, Global};
 

@@ -16,7 +16,7 @@ use Rattle.code_emit.proofs.Spanning.{none_spans, fetched_spans, leaf_spans, loa
 use Rattle.code_emit.proofs.Leaves.{no_leaf, leaf_stands, leaf-Const, leaf-Op, leaf-Mux, leaf-Select, leaf-Load, leaf-Fit}
 use Rattle.code_emit.proofs.Nesting.{nested_shaped, nested_row, nested_emits}
 use Rattle.code_emit.proofs.Following.{mux_spans, op_spans, nested_spans}
-use Rattle.code_sources.specs.Rows.{IsRow}
+use Rattle.code_draft.specs.Rows.{IsRow}
 use Rattle.code_emit.proofs.Loading.{found, row_indices, row_counted, row_some, row_shape, row_emits, row_spans}
 use Rattle.code_emit.proofs.emission.+emit.Goals as goal
 

@@ -1,4 +1,0 @@
-pub mod Reaching
-pub mod Standing
-pub mod Placing
-pub mod Picking

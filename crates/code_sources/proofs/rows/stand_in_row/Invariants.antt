@@ -1,5 +1,0 @@
-use Rattle.code_sources.proofs.Standing.{StandBefore}
-use Rattle.code_sources.proofs.rows.stand_in_row.Given as goal
-
-abbrev pub invariant-loop-place : goal.invariant-loop-place
-invariant-loop-place l = StandBefore l.sources l.leaves l.row l.place
