@@ -1,7 +1,6 @@
 -- The effects of a code are those of the frame that its run leaves.
-use Rattle.std.proofs.Common.{◌≡◌, ℕ, ◌^◌, ◌<◌, ◌≤◌, List, length, replicate, slice_index, refl, sym, subst, ap, ap₂, ◌∙◌, arith, All}
+use Rattle.std.proofs.Common.{◌≡◌, ℕ, List, length, replicate, ap, ap₂, ◌∙◌, arith}
 use lib.ListN.{length-replicate}
-use Rattle.bit_words.specs.declared.value.Value.{Value}
 use Rattle.flat_code.specs.declared.code.Code.{Code}
 use Rattle.flat_code.specs.declared.instr.Location.{Location}
 use Rattle.flat_code.specs.Meaning.{ran, published, changed, location_values}
@@ -10,9 +9,9 @@ use Rattle.flat_code.specs.Fine.{nothing}
 use Rattle.flat_code.proofs.Solving.{late}
 use Rattle.flat_code.proofs.Changing.{changed_none}
 use Rattle.code_draft.specs.declared.draft.Draft.{Draft}
-use Rattle.code_draft.specs.Drafts.{IsDraft, Solved, pushed_in}
+use Rattle.code_draft.specs.Drafts.{IsDraft}
 use Rattle.code_draft.proofs.Running.{run_solves}
-use Rattle.code_draft.specs.Finishing.{HasEffects, IsCodeOf}
+use Rattle.code_draft.specs.Finishing.{IsCodeOf}
 
 pub has_effects : (code : Code) (d : Draft) (shown : List Location) → IsDraft d → code.instrs ≡ d.instrs → code.ports ≡ d.ports → code.wides ≡ d.wides → code.shown ≡ shown → code.slots ≡ d.slots → code.once ≡ 0 → IsCodeOf code d shown
 has_effects code d shown is instrs ports wides locations slots once = λ words inputs plain.

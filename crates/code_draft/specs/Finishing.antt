@@ -3,8 +3,8 @@ use Rattle.std.specs.Prelude.{◌≡◌, ℕ, ◌<◌, ◌^◌, List, slice_inde
 use Rattle.bit_words.specs.declared.value.Value.{Value}
 use Rattle.flat_code.specs.declared.code.Code.{Code}
 use Rattle.flat_code.specs.declared.instr.Location.{Location}
-use Rattle.flat_code.specs.Meaning.{location_values, ran}
-use Rattle.flat_code.specs.Codes.{published_by, outputs_by, zeros}
+use Rattle.flat_code.specs.Meaning.{location_values}
+use Rattle.flat_code.specs.Codes.{published_by, outputs_by}
 use Rattle.code_draft.specs.declared.draft.Draft.{Draft}
 use Rattle.code_draft.specs.Drafts.{Solved, pushed_in}
 
