@@ -10,11 +10,11 @@ loop-instr-preserved c =
     let i = c.loop-instr.instr-index in
     let test = c.loop-instr-test.true in
     let below : i < length is = omega (arith, test) in
-    subst (AreFine c.args.slots c.args.words 0 0) (sym (take_more is i _ below))
-    (All-push (IsFine c.args.slots c.args.words 0 0) (take i is) _ c.loop-instr.invariant (c.is_fine.ensures c.if-not-is_fine.false))
+    subst (AreFine c.args.slots c.args.words 0 c.args.wides) (sym (take_more is i _ below))
+    (All-push (IsFine c.args.slots c.args.words 0 c.args.wides) (take i is) _ c.loop-instr.invariant (c.is_fine.ensures c.if-not-is_fine.false))
 
 pub returns : goal.returns
 returns c = λ e.
     let is = c.args.instrs.now in
     let test = c.loop-instr-test.false in
-    subst (AreFine c.args.slots c.args.words 0 0) (take_all c.loop-instr.instr-index is (omega (arith, test))) c.loop-instr.invariant
+    subst (AreFine c.args.slots c.args.words 0 c.args.wides) (take_all c.loop-instr.instr-index is (omega (arith, test))) c.loop-instr.invariant

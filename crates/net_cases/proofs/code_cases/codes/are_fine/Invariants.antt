@@ -3,4 +3,4 @@ use Rattle.flat_code.specs.Fine.{AreFine}
 use Rattle.net_cases.proofs.code_cases.codes.are_fine.Given as goal
 
 abbrev pub invariant-loop-instr : goal.invariant-loop-instr
-invariant-loop-instr l = AreFine l.slots l.words 0 0 (take l.instr-index l.instrs)
+invariant-loop-instr l = AreFine l.slots l.words 0 l.wides (take l.instr-index l.instrs)
