@@ -528,7 +528,7 @@ ROWS = {
     "n / 4 connects of choices that all differ": (connects_of_unlike_choices, 4_000, ACCEPTED),
     "n connects of ports of n fields": (connects_of_ports, 8_000, ACCEPTED),
     "n nodes of a port of a memory with n ports": (nodes_of_ports, 8_000, ACCEPTED),
-    "n / 2 references to the last of n fields without leaves": (parts_without_leaves, 4_000, ACCEPTED),
+    "n / 2 references to the last of n fields without leaves": (parts_without_leaves, 16_000, ACCEPTED),
     "20 n connects of a leaf behind 121 n steps": (long_ways, 30, ACCEPTED),
     "n / 2 of these references, refused at the widths": (REFUSED_PARTS, 16_000, REFUSED_PARTS_AT),
     "20 n of these connects, refused at the widths": (REFUSED_WAYS, 60, REFUSED_WAYS_AT),
